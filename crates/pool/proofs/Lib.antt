@@ -1,0 +1,11 @@
+pub mod Nodes
+pub mod Owners
+pub mod Trees
+pub mod FreeList
+pub mod Counts
+pub mod Writes
+pub mod Holding
+pub mod Pools
+pub mod Freeing
+pub mod Reached
+pub mod Reorder
