@@ -1,0 +1,3 @@
+mod LineText
+mod Numbers
+mod Writing
