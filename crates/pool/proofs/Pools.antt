@@ -121,6 +121,15 @@ took p q n x is memory free used room nested left right hs h =
     subst (λ (i : ℕ). Holds q (held i (forkOf x nested left right) ∷ hs)) (sym is)
     (holds-at q _ _ _ (held (p .free) (forkOf x nested left right) ∷ hs) memory free used (built _ _ _ x nested left right hs (holds-in p _ h) room))
 
+-- the node that was taken has one owner
+pub took-fresh : (p q : Pool) (n : ℕ) (x : Node) (hs : List Held) → n ≡ p .free → memoryOf q ≡ set (memoryOf p) (p .free - 1) (withCount x 1)
+    → usedOf p < length (memoryOf p) → Holds p hs → nodeAt (memoryOf q) n .count ≡ 1
+took-fresh p q n x hs is memory room h =
+    let f = take-free p hs h room in
+    ap (λ (i : ℕ). nodeAt (memoryOf q) i .count) is
+    ∙ ap (λ (m : List Node). nodeAt m (p .free) .count) memory
+    ∙ ap (λ (y : Node). y .count) (node-written (memoryOf p) (p .free) (withCount x 1) (f .0) (f .1))
+
 -- ---- the node that an owner has, and its links
 
 pub link-used : (mem : List Node) (free used : ℕ) (roots : List ℕ) → SoundIn mem free used roots → (n m : ℕ) → 0 < m → 0 < links m (nodeAt mem n)

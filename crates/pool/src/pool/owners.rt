@@ -21,6 +21,7 @@ impl Pool<'_> {
         requires room { ⌜ usedOf (now self) < length (memoryOf (now self)) ⌝ }
         ensures owned { λ r. ⌜ ((nested left right : Tree) (hs : List Held) → Holds (now (self .entry)) (held (contents .left) left ∷ held (contents .nested) nested ∷ held (contents .right) right ∷ hs) → Holds (now (self .exit)) (held r (forkOf contents nested left right) ∷ hs)) ⌝ }
         ensures used { λ _. ⌜ usedOf (now (self .exit)) ≡ usedOf (now (self .entry)) + 1 ⌝ }
+        ensures fresh { λ r. ⌜ nodeAt (memoryOf (now (self .exit))) r .count ≡ 1 ⌝ }
         ensures size { λ _. ⌜ length (memoryOf (now (self .exit))) ≡ length (memoryOf (now (self .entry))) ⌝ }
     {
         self.fill_first(contents)

@@ -1,5 +1,5 @@
 use native.Mathlib.Omega.{arith}
-use Rattle.pool.proofs.Pools.{take-free, took}
+use Rattle.pool.proofs.Pools.{take-free, took, took-fresh}
 use Rattle.pool.proofs.pool.Pool.take.Needs as need
 
 pub fill-first-requires : need.fill-first-requires
@@ -13,5 +13,6 @@ returns c =
     record {
       owned = took _ _ _ (c .args .contents) (e .node) (e .memory) (e .free) (e .used) (c .pre .room);
       used = e .used;
+      fresh = took-fresh (c .args .self .now) (c .fill-first .last .self) (c .fill-first .result) (c .args .contents) _ (e .node) (e .memory) (c .pre .room) (c .pre .held .4);
       size = e .size;
     }
