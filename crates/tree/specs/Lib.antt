@@ -1,0 +1,17 @@
+pub mod Answer
+pub mod Append
+pub mod Heights
+pub mod Insert
+pub mod Insertable
+pub mod Kind
+pub mod Laws
+pub mod Listed
+pub mod Lookup
+pub mod Range
+pub mod Ready
+pub mod Rebuild
+pub mod Removable
+pub mod Remove
+pub mod Shape
+pub mod Value
+pub mod Worked
