@@ -3,4 +3,6 @@
 #[cfg(test)]
 mod lines;
 #[cfg(test)]
+mod names;
+#[cfg(test)]
 mod scripts;
