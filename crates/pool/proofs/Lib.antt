@@ -9,3 +9,4 @@ pub mod Pools
 pub mod Freeing
 pub mod Reached
 pub mod Reorder
+pub mod Unique
