@@ -1,10 +1,5 @@
-use Rattle.std.proofs.Common.{refl, ◌∙◌}
-use Rattle.register.proofs.Making.{kept_new, shows-new}
-use Rattle.register.proofs.Telling.{ghosts}
+use Rattle.std.proofs.Common.{arith}
 use Rattle.register.proofs.register.Register.new.Goals as goal
 
 pub invariant-of-result : goal.invariant-of-result
-invariant-of-result g c = ghosts c.new.result c.new-2.result.lines _ (kept_new c.new.result c.new-2.result.lines c.new-2.ensures c.new.ensures.free)
-
-pub returns : goal.returns
-returns g c = shows-new c.new.result c.new-2.result.lines c.new-2.ensures c.new.ensures.free _ c.args.first-serial _ c.new.ensures.size c.new.ensures.used
+invariant-of-result c = (omega (arith, c.new.ensures.size), (omega (arith, c.new.ensures.used), (∣ c.new.ensures.free ∣₁, tt)))
