@@ -1,5 +1,7 @@
 //! Runs the audit script on standard input in a register of its own, and prints the report.
 
+#![tactic(auto)]
+
 ghost use Rattle.std.specs.Prelude.{◌≤◌, length, IfOk};
 
 use pool::Node;

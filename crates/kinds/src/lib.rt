@@ -1,5 +1,7 @@
 //! The kinds of keys and values that a register keeps: instants and names, and readings.
 
+#![tactic(auto)]
+
 mod backward;
 mod instant;
 mod name;

@@ -1,5 +1,7 @@
 //! A register of readings under two clocks: handles, the table of lines, and the calls on them.
 
+#![tactic(auto)]
+
 mod handle;
 mod lines;
 mod questions;

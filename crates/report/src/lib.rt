@@ -1,4 +1,6 @@
 //! A report: lines of pieces, whole or not at all, in bytes that the caller lends.
+#![tactic(auto)]
+
 mod cursor;
 mod number;
 mod report;

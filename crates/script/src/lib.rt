@@ -1,4 +1,6 @@
 //! Reads a script line by line, runs it in a register, and reports each line.
+#![tactic(auto)]
+
 mod answer;
 mod command;
 mod lexer;

@@ -1,5 +1,7 @@
 //! A persistent AVL tree over a pool, one text for every kind of key and value.
 
+#![tactic(auto)]
+
 mod inserting;
 mod key;
 mod laws;

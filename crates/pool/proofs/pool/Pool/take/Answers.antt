@@ -9,10 +9,10 @@ fill-first-requires c =
 
 pub returns : goal.returns
 returns c =
-    let e = c.fill-first.ensures in
+    let e = c.fill_first.ensures in
     record {
       owned = took _ _ _ c.args.contents e.node e.memory e.free e.used c.requires.room;
       used = e.used;
-      fresh = took-fresh c.args.self.now c.fill-first.new.self c.fill-first.result c.args.contents _ e.node e.memory c.requires.room c.requires.held.4;
+      fresh = took-fresh c.args.self.now c.fill_first.new.self c.fill_first.result c.args.contents _ e.node e.memory c.requires.room c.requires.held.4;
       size = e.size;
     }
