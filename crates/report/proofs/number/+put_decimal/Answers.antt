@@ -5,14 +5,14 @@ use Rattle.report.proofs.number.+put_decimal.Goals as goal
 
 pub returns-then-n-lt10 : goal.returns-then-n-lt10
 returns-then-n-lt10 t c =
-    rw (decimal-one c.args.n c.last-digit.result (omega arith) c.last-digit.ensures) c.put.ensures
+    rw (decimal-one c.args.n c.last_digit.result (omega arith) c.last_digit.ensures) c.put.ensures
 
-pub returns-in-err-put-decimal : goal.returns-in-err-put-decimal
-returns-in-err-put-decimal t c =
-    writes-refused _ _ c.from-residual.result c.from-residual.ensures.1
-    (rw (decimal-more c.args.n _ (omega arith) (omega arith) refl) (lacking-more _ c.in-err-put-decimal.ensures))
+pub returns-in_err-put_decimal : goal.returns-in_err-put_decimal
+returns-in_err-put_decimal t c =
+    writes-refused _ _ c.from_residual.result c.from_residual.ensures.1
+    (rw (decimal-more c.args.n _ (omega arith) (omega arith) refl) (lacking-more _ c.in_err-put_decimal.ensures))
 
 pub returns : goal.returns
 returns t c =
-    rw (decimal-more c.args.n c.last-digit-2.result (omega arith) (omega arith) c.last-digit-2.ensures)
-    (writes_then _ _ _ _ c.in-ok-put-decimal.ensures c.put-2.ensures)
+    rw (decimal-more c.args.n c.last_digit-2.result (omega arith) (omega arith) c.last_digit-2.ensures)
+    (writes_then _ _ _ _ c.in_ok-put_decimal.ensures c.put-2.ensures)

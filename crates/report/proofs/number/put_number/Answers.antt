@@ -7,5 +7,5 @@ use Rattle.report.proofs.number.put_number.Goals as goal
 pub returns : goal.returns
 returns c =
     let less : c.args.z <ℤ pos 0 = grind (arith, ints) in
-    rw (signed-minus c.args.z c.unsigned-abs-2.result c.ranges.z less c.unsigned-abs-2.ensures.value)
-    (writes_then _ _ _ _ c.in-ok-put.ensures c.put-decimal-2.ensures)
+    rw (signed-minus c.args.z c.unsigned_abs-2.result c.ranges.z less c.unsigned_abs-2.ensures.value)
+    (writes_then _ _ _ _ c.in_ok-put.ensures c.put_decimal-2.ensures)

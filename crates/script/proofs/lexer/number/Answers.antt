@@ -5,33 +5,33 @@ use Rattle.script.specs.Numerals.{digits_after}
 use Rattle.script.proofs.Digits.{number-written, number-none-size, number-none-digits, number_is, digit-more, digit-small, digit_room, digits-again, value-again, stopped}
 use Rattle.script.proofs.lexer.number.Goals as goal
 
-pub returns-then-not-plain-size : goal.returns-then-not-plain-size
-returns-then-not-plain-size c = record {
-  value = number-none-size c.args.text.now (sym c.if-not-plain-size.ensures);
+pub returns-then-not-plain_size : goal.returns-then-not-plain_size
+returns-then-not-plain_size c = record {
+  value = number-none-size c.args.text.now (sym c.if-not-plain_size.ensures);
   written = number-written c.args.text.now;
 }
 
-pub returns-then-not-is-ascii-digit : goal.returns-then-not-is-ascii-digit
-returns-then-not-is-ascii-digit c = record {
-  value = number-none-digits c.args.text.now (stopped c.args.text.now c.loop-digit.digit-index c.loop-digit-test.true c.loop-digit.invariant.1 (sym c.if-not-is-ascii-digit.ensures.value));
+pub returns-then-not-is_ascii_digit : goal.returns-then-not-is_ascii_digit
+returns-then-not-is_ascii_digit c = record {
+  value = number-none-digits c.args.text.now (stopped c.args.text.now c.loop-digit.digit-index c.loop-digit-test.true c.loop-digit.invariant.1 (sym c.if-not-is_ascii_digit.ensures.value));
   written = number-written c.args.text.now;
 }
 
-pub overflow-mul-value : goal.overflow-mul-value
-overflow-mul-value c =
-    omega (arith, digit_room c.args.text.now c.loop-digit.digit-index c.loop-digit.value 0 (sym c.if-not-plain-size.ensures) c.loop-digit-test.true c.loop-digit.invariant.0 (omega arith))
+pub overflow_mul-value : goal.overflow_mul-value
+overflow_mul-value c =
+    omega (arith, digit_room c.args.text.now c.loop-digit.digit-index c.loop-digit.value 0 (sym c.if-not-plain_size.ensures) c.loop-digit-test.true c.loop-digit.invariant.0 (omega arith))
 
-pub overflow-add-value : goal.overflow-add-value
-overflow-add-value c =
+pub overflow_add-value : goal.overflow_add-value
+overflow_add-value c =
     let byte = get_or c.args.text.now c.loop-digit.digit-index 0 in
-    let digit = sym c.if-not-is-ascii-digit.ensures.value in
-    omega (arith, digit_room c.args.text.now c.loop-digit.digit-index c.loop-digit.value (byte - 48) (sym c.if-not-plain-size.ensures) c.loop-digit-test.true c.loop-digit.invariant.0 (digit-small byte digit))
+    let digit = sym c.if-not-is_ascii_digit.ensures.value in
+    omega (arith, digit_room c.args.text.now c.loop-digit.digit-index c.loop-digit.value (byte - 48) (sym c.if-not-plain_size.ensures) c.loop-digit-test.true c.loop-digit.invariant.0 (digit-small byte digit))
 
 pub loop-digit-preserved : goal.loop-digit-preserved
 loop-digit-preserved c =
     let text = c.args.text.now in
     let i = c.loop-digit.digit-index in
-    let digit = sym c.if-not-is-ascii-digit.ensures.value in (
+    let digit = sym c.if-not-is_ascii_digit.ensures.value in (
       digit-more c.loop-digit.value (get_or text i 0 - 48) i c.loop-digit.invariant.0 (digit-small (get_or text i 0) digit),
       digits-again text i c.loop-digit-test.true c.loop-digit.invariant.1 digit,
       value-again text i c.loop-digit.value c.loop-digit-test.true c.loop-digit.invariant.2,
@@ -43,6 +43,6 @@ returns c =
     let v = c.loop-digit.value in
     let i = c.loop-digit.digit-index in
     record {
-      value = ap Some (sym (at_drop_all (digits_after v) text i c.loop-digit-test.false) ∙ c.loop-digit.invariant.2) ∙ sym (number_is text (sym c.if-not-plain-size.ensures) (sym c.loop-digit.invariant.1 ∙ at_drop_all all_ascii_digits text i c.loop-digit-test.false));
+      value = ap Some (sym (at_drop_all (digits_after v) text i c.loop-digit-test.false) ∙ c.loop-digit.invariant.2) ∙ sym (number_is text (sym c.if-not-plain_size.ensures) (sym c.loop-digit.invariant.1 ∙ at_drop_all all_ascii_digits text i c.loop-digit-test.false));
       written = number-written text;
     }

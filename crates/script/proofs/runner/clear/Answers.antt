@@ -9,7 +9,7 @@ loop-shelf-init c = refl
 
 pub loop-shelf-preserved : goal.loop-shelf-preserved
 unfolding cleared
-loop-shelf-preserved c = rw add-one (c.retire-on.ensures.after ∙ ap (λ (s : Shown). (retired_on s (65 + c.loop-shelf.shelf)).1) c.loop-shelf.invariant)
+loop-shelf-preserved c = rw add-one (c.retire_on.ensures.after ∙ ap (λ (s : Shown). (retired_on s (65 + c.loop-shelf.shelf)).1) c.loop-shelf.invariant)
 
 pub returns : goal.returns
 returns c =

@@ -10,7 +10,7 @@ returns-in-Ok-line c =
       kept = wrote.kept;
       within = search rules;
       ended = λ whole s nodes ran. finished-line whole c.args.report.now c.line.new.self _ wrote.kept c.len-in-Ok-line.result c.len-in-Ok-line.ensures
-          (end-to-come whole s c.args.report.now c.args.ran c.in-Ok.counts c.args.in-use c.counted.result c.counted-2.result c.counted-3.result c.in-Ok.is nodes ran c.counted.ensures c.counted-2.ensures c.counted-3.ensures)
+          (end-to-come whole s c.args.report.now c.args.ran c.in-Ok.counts c.args.in_use c.counted.result c.counted-2.result c.counted-3.result c.in-Ok.is nodes ran c.counted.ensures c.counted-2.ensures c.counted-3.ensures)
           wrote.lined;
     }
 
@@ -22,6 +22,6 @@ returns-in-Err c =
       kept = wrote.kept;
       within = search rules;
       ended = λ whole s nodes ran. finished-full whole c.args.report.now c.line.new.self _ wrote.kept c.len-in-Err.result c.len-in-Err.ensures
-          (end-to-come whole s c.args.report.now c.args.ran c.in-Ok.counts c.args.in-use c.counted.result c.counted-2.result c.counted-3.result c.in-Ok.is nodes ran c.counted.ensures c.counted-2.ensures c.counted-3.ensures)
+          (end-to-come whole s c.args.report.now c.args.ran c.in-Ok.counts c.args.in_use c.counted.result c.counted-2.result c.counted-3.result c.in-Ok.is nodes ran c.counted.ensures c.counted-2.ensures c.counted-3.ensures)
           wrote.lined;
     }

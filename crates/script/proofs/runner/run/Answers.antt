@@ -6,10 +6,10 @@ use Rattle.script.proofs.runner.run.Goals as goal
 
 pub returns : goal.returns
 returns c =
-    let ran = c.run-script.ensures in
+    let ran = c.run_script.ensures in
     record {
       within = ran.within;
-      beyond = front-behind 65535 c.min-size.result c.args.nodes.now c.min-size.ensures c.run-script.new.nodes c.run-script.auto.nodes;
+      beyond = front-behind 65535 c.min-size.result c.args.nodes.now c.min-size.ensures c.run_script.new.nodes c.run_script.auto.nodes;
       long = λ h. absurd (omega arith);
-      ran = λ h. subst (λ (n : ℕ). Reported (report_of (newly_made n c.args.first-serial) c.args.script.now) c.run-script.result c.args.out.now c.run-script.new.out) (front-most 65535 c.min-size.result c.args.nodes.now c.min-size.ensures) ran.ran;
+      ran = λ h. subst (λ (n : ℕ). Reported (report_of (newly_made n c.args.first_serial) c.args.script.now) c.run_script.result c.args.out.now c.run_script.new.out) (front-most 65535 c.min-size.result c.args.nodes.now c.min-size.ensures) ran.ran;
     }

@@ -33,8 +33,8 @@ returns-then-n-eq0 g t c =
       size = c.build.ensures.size;
     }
 
-pub take-apart-node-requires : goal.take-apart-node-requires
-take-apart-node-requires g t c =
+pub take_apart-node-requires : goal.take_apart-node-requires
+take_apart-node-requires g t c =
     let n : 0 < c.args.n = omega (arith, c.if-n-eq0.false) in
     record { held = (_, _, c.requires.ready.holds, omega (arith, c.requires.ready.few)); numbered = n }
 
@@ -42,24 +42,24 @@ pub insert-left-requires : goal.insert-left-requires
 insert-left-requires g t c κs =
     let n : 0 < c.args.n = omega (arith, c.if-n-eq0.false) in
     let d = low-fork c.requires.ready n in
-    let e = c.take-apart-node.ensures in
-    let fewer = apart-fewer _ _ _ (used_of c.args.pool.now) (used_of c.take-apart-node.new.self) _ _ d.trees.holds n e.node e.shared e.last in
+    let e = c.take_apart-node.ensures in
+    let fewer = apart-fewer _ _ _ (used_of c.args.pool.now) (used_of c.take_apart-node.new.self) _ _ d.trees.holds n e.node e.shared e.last in
     λ live. (omega (arith, c.decreases, left-falls (standing d.trees) _ _ e.owned d.balanced), (live.0, (live.1, left-insertable d _ _ e.owned fewer e.size)))
 
 pub insert-right-requires : goal.insert-right-requires
 insert-right-requires g t c κs =
     let n : 0 < c.args.n = omega (arith, c.if-n-eq0.false) in
     let d = low-fork c.requires.ready n in
-    let e = c.take-apart-node.ensures in
-    let fewer = apart-fewer _ _ _ (used_of c.args.pool.now) (used_of c.take-apart-node.new.self) _ _ d.trees.holds n e.node e.shared e.last in
+    let e = c.take_apart-node.ensures in
+    let fewer = apart-fewer _ _ _ (used_of c.args.pool.now) (used_of c.take_apart-node.new.self) _ _ d.trees.holds n e.node e.shared e.last in
     λ live. (omega (arith, c.decreases, right-falls (standing d.trees) _ _ e.owned d.balanced), (live.0, (live.1, right-insertable d _ _ e.owned fewer e.size)))
 
 pub balance-requires : goal.balance-requires
 balance-requires g t c =
     let n : 0 < c.args.n = omega (arith, c.if-n-eq0.false) in
     let d = low-fork c.requires.ready n in
-    let e = c.take-apart-node.ensures in
-    let fewer = apart-fewer _ _ _ (used_of c.args.pool.now) (used_of c.take-apart-node.new.self) _ _ d.trees.holds n e.node e.shared e.last in
+    let e = c.take_apart-node.ensures in
+    let fewer = apart-fewer _ _ _ (used_of c.args.pool.now) (used_of c.take_apart-node.new.self) _ _ d.trees.holds n e.node e.shared e.last in
     let used = c.insert-left.ensures.used _ (stood-left (standing d.trees) _ _ e.owned) in
     record {
       ready = left-balanceable d _ _ e.owned _ _ _ _ _ c.insert-left.ensures.owned;
@@ -70,8 +70,8 @@ pub balance-requires-in-Greater : goal.balance-requires-in-Greater
 balance-requires-in-Greater g t c =
     let n : 0 < c.args.n = omega (arith, c.if-n-eq0.false) in
     let d = low-fork c.requires.ready n in
-    let e = c.take-apart-node.ensures in
-    let fewer = apart-fewer _ _ _ (used_of c.args.pool.now) (used_of c.take-apart-node.new.self) _ _ d.trees.holds n e.node e.shared e.last in
+    let e = c.take_apart-node.ensures in
+    let fewer = apart-fewer _ _ _ (used_of c.args.pool.now) (used_of c.take_apart-node.new.self) _ _ d.trees.holds n e.node e.shared e.last in
     let used = c.insert-right.ensures.used _ (stood-right (standing d.trees) _ _ e.owned) in
     record {
       ready = right-balanceable d _ _ e.owned _ _ _ _ _ c.insert-right.ensures.owned;
@@ -82,20 +82,20 @@ pub replace-requires : goal.replace-requires
 replace-requires g t c =
     let n : 0 < c.args.n = omega (arith, c.if-n-eq0.false) in
     let d = low-fork c.requires.ready n in
-    let e = c.take-apart-node.ensures in
-    let fewer = apart-fewer _ _ _ (used_of c.args.pool.now) (used_of c.take-apart-node.new.self) _ _ d.trees.holds n e.node e.shared e.last in
+    let e = c.take_apart-node.ensures in
+    let fewer = apart-fewer _ _ _ (used_of c.args.pool.now) (used_of c.take_apart-node.new.self) _ _ d.trees.holds n e.node e.shared e.last in
     record { held = (_, _, _, _, _, old-first d.trees _ _ e.owned); room = omega (arith, fewer, d.room, e.size) }
 
 pub returns-in-Less : goal.returns-in-Less
 returns-in-Less g t c =
     let n : 0 < c.args.n = omega (arith, c.if-n-eq0.false) in
     let d = low-fork c.requires.ready n in
-    let e = c.take-apart-node.ensures in
-    let fewer = apart-fewer _ _ _ (used_of c.args.pool.now) (used_of c.take-apart-node.new.self) _ _ d.trees.holds n e.node e.shared e.last in
+    let e = c.take_apart-node.ensures in
+    let fewer = apart-fewer _ _ _ (used_of c.args.pool.now) (used_of c.take_apart-node.new.self) _ _ d.trees.holds n e.node e.shared e.last in
     let used = c.insert-left.ensures.used _ (stood-left (standing d.trees) _ _ e.owned) in
     let less = sym c.in-Less.ensures in
     record {
-      owned = inserted-less _ _ _ _ _ c.take-apart-node.result _ _ n e.owned _ _ _ _ less c.insert-left.ensures.owned c.balance.ensures.owned;
+      owned = inserted-less _ _ _ _ _ c.take_apart-node.result _ _ n e.owned _ _ _ _ less c.insert-left.ensures.owned c.balance.ensures.owned;
       used = λ u carries. omega (arith, standing-height (standing d.trees) u carries, d.balanced.0, fewer, used, c.balance.ensures.used);
       replaced = λ u carries there.
           let place = compared g.K.Key.key g.K.Key.order c.args.key in
@@ -112,11 +112,11 @@ pub returns-in-Equal : goal.returns-in-Equal
 returns-in-Equal g t c =
     let n : 0 < c.args.n = omega (arith, c.if-n-eq0.false) in
     let d = low-fork c.requires.ready n in
-    let e = c.take-apart-node.ensures in
-    let fewer = apart-fewer _ _ _ (used_of c.args.pool.now) (used_of c.take-apart-node.new.self) _ _ d.trees.holds n e.node e.shared e.last in
+    let e = c.take_apart-node.ensures in
+    let fewer = apart-fewer _ _ _ (used_of c.args.pool.now) (used_of c.take_apart-node.new.self) _ _ d.trees.holds n e.node e.shared e.last in
     let equal = sym c.in-Equal.ensures in
     record {
-      owned = inserted-equal _ _ _ _ _ c.take-apart-node.result _ _ n e.owned _ _ equal c.replace.ensures.owned;
+      owned = inserted-equal _ _ _ _ _ c.take_apart-node.result _ _ n e.owned _ _ equal c.replace.ensures.owned;
       used = λ u carries. omega (arith, fewer, c.replace.ensures.used);
       replaced = λ u carries there. omega (arith, standing-height (standing d.trees) u carries, d.balanced.0, fewer, c.replace.ensures.used);
       appended = λ u carries behind. omega (arith, fewer, c.replace.ensures.used);
@@ -128,14 +128,14 @@ pub returns-in-Greater : goal.returns-in-Greater
 returns-in-Greater g t c =
     let n : 0 < c.args.n = omega (arith, c.if-n-eq0.false) in
     let d = low-fork c.requires.ready n in
-    let e = c.take-apart-node.ensures in
-    let fewer = apart-fewer _ _ _ (used_of c.args.pool.now) (used_of c.take-apart-node.new.self) _ _ d.trees.holds n e.node e.shared e.last in
+    let e = c.take_apart-node.ensures in
+    let fewer = apart-fewer _ _ _ (used_of c.args.pool.now) (used_of c.take_apart-node.new.self) _ _ d.trees.holds n e.node e.shared e.last in
     let carried = stood-right (standing d.trees) _ _ e.owned in
     let used = c.insert-right.ensures.used _ carried in
     let place = compared g.K.Key.key g.K.Key.order c.args.key in
     let greater = sym c.in-Greater.ensures in
     record {
-      owned = inserted-greater _ _ _ _ _ c.take-apart-node.result _ _ n e.owned _ _ _ _ greater c.insert-right.ensures.owned c.balance-in-Greater.ensures.owned;
+      owned = inserted-greater _ _ _ _ _ c.take_apart-node.result _ _ n e.owned _ _ _ _ greater c.insert-right.ensures.owned c.balance-in-Greater.ensures.owned;
       used = λ u carries. omega (arith, standing-height (standing d.trees) u carries, d.balanced.0, fewer, used, c.balance-in-Greater.ensures.used);
       replaced = λ u carries there.
           let side = c.insert-right.ensures.replaced _ carried (present-side d.trees _ _ e.owned u carries place Greater greater there) in

@@ -5,38 +5,38 @@ use Rattle.tree.proofs.Balancing.{balanced_left, balanced-level, balanced_right}
 use Rattle.tree.proofs.Rotating.{numbered-fork}
 use Rattle.tree.proofs.rebuild.balance.Goals as goal
 
-pub stored-height-before-requires : goal.stored-height-before-requires
-stored-height-before-requires c =
+pub stored_height-before-requires : goal.stored_height-before-requires
+stored_height-before-requires c =
     let b = c.requires.ready in (b.l, left-carries _ c.args.root _ c.args.right b.nested b.l b.r b.others b.holds)
 
-pub stored-height-behind-requires : goal.stored-height-behind-requires
-stored-height-behind-requires c =
+pub stored_height-behind-requires : goal.stored_height-behind-requires
+stored_height-behind-requires c =
     let b = c.requires.ready in (b.r, right-carries _ c.args.root c.args.left _ b.nested b.l b.r b.others b.holds)
 
-pub is-too-high-requires : goal.is-too-high-requires
-is-too-high-requires c =
+pub is_too_high-requires : goal.is_too_high-requires
+is_too_high-requires c =
     let b = c.requires.ready in
-    omega (arith, b.low_right, c.stored-height-behind.ensures b.r (right-carries _ c.args.root c.args.left _ b.nested b.l b.r b.others b.holds))
+    omega (arith, b.low_right, c.stored_height-behind.ensures b.r (right-carries _ c.args.root c.args.left _ b.nested b.l b.r b.others b.holds))
 
-pub rotate-right-requires : goal.rotate-right-requires
-rotate-right-requires c =
-    let test : c.stored-height-behind.result + 1 < c.stored-height-before.result = ltb-true _ _ (sym c.is-too-high.ensures ∙ c.if-is-too-high.true) in
+pub rotate_right-requires : goal.rotate_right-requires
+rotate_right-requires c =
+    let test : c.stored_height-behind.result + 1 < c.stored_height-before.result = ltb-true _ _ (sym c.is_too_high.ensures ∙ c.if-is_too_high.true) in
     let b = c.requires.ready in
     let carries = left-carries _ c.args.root _ c.args.right b.nested b.l b.r b.others b.holds in
-    let high = c.stored-height-before.ensures b.l carries in
+    let high = c.stored_height-before.ensures b.l carries in
     record { ready = b; numbered = numbered-fork _ _ b.l carries (omega arith); room = c.requires.room }
 
-pub is-too-high-requires-else-is-too-high : goal.is-too-high-requires-else-is-too-high
-is-too-high-requires-else-is-too-high c =
+pub is_too_high-requires-else-is_too_high : goal.is_too_high-requires-else-is_too_high
+is_too_high-requires-else-is_too_high c =
     let b = c.requires.ready in
-    omega (arith, b.low_left, c.stored-height-before.ensures b.l (left-carries _ c.args.root _ c.args.right b.nested b.l b.r b.others b.holds))
+    omega (arith, b.low_left, c.stored_height-before.ensures b.l (left-carries _ c.args.root _ c.args.right b.nested b.l b.r b.others b.holds))
 
-pub rotate-left-requires : goal.rotate-left-requires
-rotate-left-requires c =
-    let test : c.stored-height-before.result + 1 < c.stored-height-behind.result = ltb-true _ _ (sym c.is-too-high-else-is-too-high.ensures ∙ c.if-is-too-high-2.true) in
+pub rotate_left-requires : goal.rotate_left-requires
+rotate_left-requires c =
+    let test : c.stored_height-before.result + 1 < c.stored_height-behind.result = ltb-true _ _ (sym c.is_too_high-else-is_too_high.ensures ∙ c.if-is_too_high-2.true) in
     let b = c.requires.ready in
     let carries = right-carries _ c.args.root c.args.left _ b.nested b.l b.r b.others b.holds in
-    let high = c.stored-height-behind.ensures b.r carries in
+    let high = c.stored_height-behind.ensures b.r carries in
     record { ready = b; numbered = numbered-fork _ _ b.r carries (omega arith); room = c.requires.room }
 
 pub build-requires : goal.build-requires
@@ -55,14 +55,14 @@ build-requires c =
       room = omega (arith, c.requires.room);
     }
 
-pub returns-then-is-too-high : goal.returns-then-is-too-high
-returns-then-is-too-high c =
-    let test : c.stored-height-behind.result + 1 < c.stored-height-before.result = ltb-true _ _ (sym c.is-too-high.ensures ∙ c.if-is-too-high.true) in
-    let m = c.stored-height-before.ensures in
-    let n = c.stored-height-behind.ensures in
+pub returns-then-is_too_high : goal.returns-then-is_too_high
+returns-then-is_too_high c =
+    let test : c.stored_height-behind.result + 1 < c.stored_height-before.result = ltb-true _ _ (sym c.is_too_high.ensures ∙ c.if-is_too_high.true) in
+    let m = c.stored_height-before.ensures in
+    let n = c.stored_height-behind.ensures in
     record {
-      owned = balanced_left _ _ c.args.root _ _ _ _ m n test _ c.rotate-right.ensures.owned;
-      used = c.rotate-right.ensures.used;
+      owned = balanced_left _ _ c.args.root _ _ _ _ m n test _ c.rotate_right.ensures.owned;
+      used = c.rotate_right.ensures.used;
       level = λ nested l r hs h low high.
           let x = m l (left-carries _ c.args.root _ c.args.right nested l r hs h) in
           let y = n r (right-carries _ c.args.root c.args.left _ nested l r hs h) in
@@ -71,34 +71,34 @@ returns-then-is-too-high c =
           let x = m l (left-carries _ c.args.root _ c.args.right nested l r hs h) in
           let y = n r (right-carries _ c.args.root c.args.left _ nested l r hs h) in
           absurd (omega (arith, test));
-      fresh = c.rotate-right.ensures.fresh;
-      size = c.rotate-right.ensures.size;
+      fresh = c.rotate_right.ensures.fresh;
+      size = c.rotate_right.ensures.size;
     }
 
-pub returns-then-is-too-high-2 : goal.returns-then-is-too-high-2
-returns-then-is-too-high-2 c =
-    let low : c.stored-height-before.result ≤ c.stored-height-behind.result + 1 = ltb-false _ _ (sym c.is-too-high.ensures ∙ c.if-is-too-high.false) in
-    let test : c.stored-height-before.result + 1 < c.stored-height-behind.result = ltb-true _ _ (sym c.is-too-high-else-is-too-high.ensures ∙ c.if-is-too-high-2.true) in
-    let m = c.stored-height-before.ensures in
-    let n = c.stored-height-behind.ensures in
+pub returns-then-is_too_high-2 : goal.returns-then-is_too_high-2
+returns-then-is_too_high-2 c =
+    let low : c.stored_height-before.result ≤ c.stored_height-behind.result + 1 = ltb-false _ _ (sym c.is_too_high.ensures ∙ c.if-is_too_high.false) in
+    let test : c.stored_height-before.result + 1 < c.stored_height-behind.result = ltb-true _ _ (sym c.is_too_high-else-is_too_high.ensures ∙ c.if-is_too_high-2.true) in
+    let m = c.stored_height-before.ensures in
+    let n = c.stored_height-behind.ensures in
     record {
-      owned = balanced_right _ _ c.args.root _ _ _ _ m n low test _ c.rotate-left.ensures.owned;
-      used = c.rotate-left.ensures.used;
+      owned = balanced_right _ _ c.args.root _ _ _ _ m n low test _ c.rotate_left.ensures.owned;
+      used = c.rotate_left.ensures.used;
       level = λ nested l r hs h by_left by_right.
           let x = m l (left-carries _ c.args.root _ c.args.right nested l r hs h) in
           let y = n r (right-carries _ c.args.root c.args.left _ nested l r hs h) in
           absurd (omega (arith, test));
-      single = λ nested l r hs h high. c.rotate-left.ensures.single nested l r hs h;
-      fresh = c.rotate-left.ensures.fresh;
-      size = c.rotate-left.ensures.size;
+      single = λ nested l r hs h high. c.rotate_left.ensures.single nested l r hs h;
+      fresh = c.rotate_left.ensures.fresh;
+      size = c.rotate_left.ensures.size;
     }
 
-pub returns-else-is-too-high-2 : goal.returns-else-is-too-high-2
-returns-else-is-too-high-2 c =
-    let low : c.stored-height-before.result ≤ c.stored-height-behind.result + 1 = ltb-false _ _ (sym c.is-too-high.ensures ∙ c.if-is-too-high.false) in
-    let high : c.stored-height-behind.result ≤ c.stored-height-before.result + 1 = ltb-false _ _ (sym c.is-too-high-else-is-too-high.ensures ∙ c.if-is-too-high-2.false) in
-    let m = c.stored-height-before.ensures in
-    let n = c.stored-height-behind.ensures in
+pub returns-else-is_too_high-2 : goal.returns-else-is_too_high-2
+returns-else-is_too_high-2 c =
+    let low : c.stored_height-before.result ≤ c.stored_height-behind.result + 1 = ltb-false _ _ (sym c.is_too_high.ensures ∙ c.if-is_too_high.false) in
+    let high : c.stored_height-behind.result ≤ c.stored_height-before.result + 1 = ltb-false _ _ (sym c.is_too_high-else-is_too_high.ensures ∙ c.if-is_too_high-2.false) in
+    let m = c.stored_height-before.ensures in
+    let n = c.stored_height-behind.ensures in
     record {
       owned = balanced-level _ _ c.args.root _ _ _ _ m n low high _ c.build.ensures.owned;
       used = omega (arith, c.build.ensures.used);

@@ -3,15 +3,15 @@ use Rattle.pool.specs.Sound.{used_of}
 use Rattle.tree.proofs.Rotating.{Three, apart-fewer, lower-sides, middle-first, middle-numbered, new-sides, rotated-double, three, upper-sides}
 use Rattle.tree.proofs.rebuild.rotate_double.Goals as goal
 
-pub take-apart-root-requires : goal.take-apart-root-requires
-take-apart-root-requires c =
+pub take_apart-root-requires : goal.take_apart-root-requires
+take_apart-root-requires c =
     let d = three c.requires.ready in record { held = (_, _, middle-first d, omega (arith, c.requires.ready.few)); numbered = middle-numbered d }
 
 pub build-before-requires : goal.build-before-requires
 build-before-requires c =
     let d = three c.requires.ready in
-    let e = c.take-apart-root.ensures in
-    let fewer = apart-fewer _ _ _ (used_of c.args.pool.now) (used_of c.take-apart-root.new.self) _ _ (middle-first d) (middle-numbered d) e.node e.shared e.last in
+    let e = c.take_apart-root.ensures in
+    let fewer = apart-fewer _ _ _ (used_of c.args.pool.now) (used_of c.take_apart-root.new.self) _ _ (middle-first d) (middle-numbered d) e.node e.shared e.last in
     record {
       ready = record {
         nested = _;
@@ -28,8 +28,8 @@ build-before-requires c =
 pub build-behind-requires : goal.build-behind-requires
 build-behind-requires c =
     let d = three c.requires.ready in
-    let e = c.take-apart-root.ensures in
-    let fewer = apart-fewer _ _ _ (used_of c.args.pool.now) (used_of c.take-apart-root.new.self) _ _ (middle-first d) (middle-numbered d) e.node e.shared e.last in
+    let e = c.take_apart-root.ensures in
+    let fewer = apart-fewer _ _ _ (used_of c.args.pool.now) (used_of c.take_apart-root.new.self) _ _ (middle-first d) (middle-numbered d) e.node e.shared e.last in
     record {
       ready = record {
         nested = _;
@@ -46,8 +46,8 @@ build-behind-requires c =
 pub build-requires : goal.build-requires
 build-requires c =
     let d = three c.requires.ready in
-    let e = c.take-apart-root.ensures in
-    let fewer = apart-fewer _ _ _ (used_of c.args.pool.now) (used_of c.take-apart-root.new.self) _ _ (middle-first d) (middle-numbered d) e.node e.shared e.last in
+    let e = c.take_apart-root.ensures in
+    let fewer = apart-fewer _ _ _ (used_of c.args.pool.now) (used_of c.take_apart-root.new.self) _ _ (middle-first d) (middle-numbered d) e.node e.shared e.last in
     record {
       ready = record {
         nested = _;
@@ -64,10 +64,10 @@ build-requires c =
 pub returns : goal.returns
 returns c =
     let d = three c.requires.ready in
-    let e = c.take-apart-root.ensures in
-    let fewer = apart-fewer _ _ _ (used_of c.args.pool.now) (used_of c.take-apart-root.new.self) _ _ (middle-first d) (middle-numbered d) e.node e.shared e.last in
+    let e = c.take_apart-root.ensures in
+    let fewer = apart-fewer _ _ _ (used_of c.args.pool.now) (used_of c.take_apart-root.new.self) _ _ (middle-first d) (middle-numbered d) e.node e.shared e.last in
     record {
-      owned = rotated-double _ _ _ _ _ c.args.lower c.args.upper c.take-apart-root.result _ _ _ _ _ _ (middle-numbered d) e.owned c.build-before.ensures.owned c.build-behind.ensures.owned c.build.ensures.owned;
+      owned = rotated-double _ _ _ _ _ c.args.lower c.args.upper c.take_apart-root.result _ _ _ _ _ _ (middle-numbered d) e.owned c.build-before.ensures.owned c.build-behind.ensures.owned c.build.ensures.owned;
       used = omega (arith, c.build-before.ensures.used, c.build-behind.ensures.used, c.build.ensures.used);
       fresh = c.build.ensures.fresh;
       size = c.build.ensures.size ∙ c.build-behind.ensures.size ∙ c.build-before.ensures.size ∙ e.size;

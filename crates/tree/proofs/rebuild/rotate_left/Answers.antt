@@ -5,26 +5,26 @@ use Rattle.pool.specs.declared.node.Node.{Node}
 use Rattle.tree.proofs.Rotating.{apart-fewer, doubled-ready, leans-single, low_right, right-below, right-first, right-inner, right-outer, right-three, right-top, rotated-left-double, rotated-left-single}
 use Rattle.tree.proofs.rebuild.rotate_left.Goals as goal
 
-pub take-apart-upper-requires : goal.take-apart-upper-requires
-take-apart-upper-requires c =
+pub take_apart-upper-requires : goal.take_apart-upper-requires
+take_apart-upper-requires c =
     let d = low_right c.requires.ready c.requires.numbered in
     record { held = (_, _, right-first d.trees, omega (arith, d.few)); numbered = c.requires.numbered }
 
-pub stored-height-outer-requires : goal.stored-height-outer-requires
-stored-height-outer-requires c =
-    let d = low_right c.requires.ready c.requires.numbered in (_, right-outer d.trees _ _ c.take-apart-upper.ensures.owned)
+pub stored_height-outer-requires : goal.stored_height-outer-requires
+stored_height-outer-requires c =
+    let d = low_right c.requires.ready c.requires.numbered in (_, right-outer d.trees _ _ c.take_apart-upper.ensures.owned)
 
-pub stored-height-inner-requires : goal.stored-height-inner-requires
-stored-height-inner-requires c =
-    let d = low_right c.requires.ready c.requires.numbered in (_, right-inner d.trees _ _ c.take-apart-upper.ensures.owned)
+pub stored_height-inner-requires : goal.stored_height-inner-requires
+stored_height-inner-requires c =
+    let d = low_right c.requires.ready c.requires.numbered in (_, right-inner d.trees _ _ c.take_apart-upper.ensures.owned)
 
-pub rotate-double-requires : goal.rotate-double-requires
-rotate-double-requires c =
-    let inner : c.stored-height-outer.result < c.stored-height-inner.result = ltb-true _ _ (sym c.is-double.ensures ∙ c.if-is-double.true) in
+pub rotate_double-requires : goal.rotate_double-requires
+rotate_double-requires c =
+    let inner : c.stored_height-outer.result < c.stored_height-inner.result = ltb-true _ _ (sym c.is_double.ensures ∙ c.if-is_double.true) in
     let d = low_right c.requires.ready c.requires.numbered in
-    let e = c.take-apart-upper.ensures in
-    let fewer = apart-fewer _ _ _ (used_of c.args.pool.now) (used_of c.take-apart-upper.new.self) _ _ (right-first d.trees) c.requires.numbered e.node e.shared e.last in
-    let inside = c.stored-height-inner.ensures _ (right-inner d.trees _ _ e.owned) in
+    let e = c.take_apart-upper.ensures in
+    let fewer = apart-fewer _ _ _ (used_of c.args.pool.now) (used_of c.take_apart-upper.new.self) _ _ (right-first d.trees) c.requires.numbered e.node e.shared e.last in
+    let inside = c.stored_height-inner.ensures _ (right-inner d.trees _ _ e.owned) in
     record {
       ready = doubled-ready _ _ _ _ _ _ _ _ _ _ _ _ (right-three d.trees _ _ e.owned) (omega (arith, d.few)) d.low_left d.balanced (omega (arith, d.low-middle)) (omega (arith, d.low_behind)) (omega arith);
       room = omega (arith, e.size);
@@ -33,8 +33,8 @@ rotate-double-requires c =
 pub build-below-requires : goal.build-below-requires
 build-below-requires c =
     let d = low_right c.requires.ready c.requires.numbered in
-    let e = c.take-apart-upper.ensures in
-    let fewer = apart-fewer _ _ _ (used_of c.args.pool.now) (used_of c.take-apart-upper.new.self) _ _ (right-first d.trees) c.requires.numbered e.node e.shared e.last in
+    let e = c.take_apart-upper.ensures in
+    let fewer = apart-fewer _ _ _ (used_of c.args.pool.now) (used_of c.take_apart-upper.new.self) _ _ (right-first d.trees) c.requires.numbered e.node e.shared e.last in
     record {
       ready = record {
         nested = _;
@@ -51,8 +51,8 @@ build-below-requires c =
 pub build-requires : goal.build-requires
 build-requires c =
     let d = low_right c.requires.ready c.requires.numbered in
-    let e = c.take-apart-upper.ensures in
-    let fewer = apart-fewer _ _ _ (used_of c.args.pool.now) (used_of c.take-apart-upper.new.self) _ _ (right-first d.trees) c.requires.numbered e.node e.shared e.last in
+    let e = c.take_apart-upper.ensures in
+    let fewer = apart-fewer _ _ _ (used_of c.args.pool.now) (used_of c.take_apart-upper.new.self) _ _ (right-first d.trees) c.requires.numbered e.node e.shared e.last in
     record {
       ready = record {
         nested = _;
@@ -66,29 +66,29 @@ build-requires c =
       room = omega (arith, e.size, c.build-below.ensures.used, c.build-below.ensures.size);
     }
 
-pub returns-then-is-double : goal.returns-then-is-double
-returns-then-is-double c =
-    let inner : c.stored-height-outer.result < c.stored-height-inner.result = ltb-true _ _ (sym c.is-double.ensures ∙ c.if-is-double.true) in
+pub returns-then-is_double : goal.returns-then-is_double
+returns-then-is_double c =
+    let inner : c.stored_height-outer.result < c.stored_height-inner.result = ltb-true _ _ (sym c.is_double.ensures ∙ c.if-is_double.true) in
     let d = low_right c.requires.ready c.requires.numbered in
-    let e = c.take-apart-upper.ensures in
-    let fewer = apart-fewer _ _ _ (used_of c.args.pool.now) (used_of c.take-apart-upper.new.self) _ _ (right-first d.trees) c.requires.numbered e.node e.shared e.last in
+    let e = c.take_apart-upper.ensures in
+    let fewer = apart-fewer _ _ _ (used_of c.args.pool.now) (used_of c.take_apart-upper.new.self) _ _ (right-first d.trees) c.requires.numbered e.node e.shared e.last in
     record {
-      owned = rotated-left-double _ _ c.args.root c.take-apart-upper.result _ _ c.requires.numbered e.owned _ _ c.stored-height-outer.ensures c.stored-height-inner.ensures _ _ inner c.rotate-double.ensures.owned;
-      used = omega (arith, c.rotate-double.ensures.used);
+      owned = rotated-left-double _ _ c.args.root c.take_apart-upper.result _ _ c.requires.numbered e.owned _ _ c.stored_height-outer.ensures c.stored_height-inner.ensures _ _ inner c.rotate_double.ensures.owned;
+      used = omega (arith, c.rotate_double.ensures.used);
       single = λ nested l r hs h leans one.
-          absurd (omega (arith, inner, leans-single _ _ c.args.root c.take-apart-upper.result _ _ c.requires.numbered e.owned _ _ c.stored-height-outer.ensures c.stored-height-inner.ensures nested l r hs h leans));
-      fresh = c.rotate-double.ensures.fresh;
-      size = c.rotate-double.ensures.size ∙ e.size;
+          absurd (omega (arith, inner, leans-single _ _ c.args.root c.take_apart-upper.result _ _ c.requires.numbered e.owned _ _ c.stored_height-outer.ensures c.stored_height-inner.ensures nested l r hs h leans));
+      fresh = c.rotate_double.ensures.fresh;
+      size = c.rotate_double.ensures.size ∙ e.size;
     }
 
-pub returns-else-is-double : goal.returns-else-is-double
-returns-else-is-double c =
-    let outer : c.stored-height-inner.result ≤ c.stored-height-outer.result = ltb-false _ _ (sym c.is-double.ensures ∙ c.if-is-double.false) in
+pub returns-else-is_double : goal.returns-else-is_double
+returns-else-is_double c =
+    let outer : c.stored_height-inner.result ≤ c.stored_height-outer.result = ltb-false _ _ (sym c.is_double.ensures ∙ c.if-is_double.false) in
     let d = low_right c.requires.ready c.requires.numbered in
-    let e = c.take-apart-upper.ensures in
-    let fewer = apart-fewer _ _ _ (used_of c.args.pool.now) (used_of c.take-apart-upper.new.self) _ _ (right-first d.trees) c.requires.numbered e.node e.shared e.last in
+    let e = c.take_apart-upper.ensures in
+    let fewer = apart-fewer _ _ _ (used_of c.args.pool.now) (used_of c.take_apart-upper.new.self) _ _ (right-first d.trees) c.requires.numbered e.node e.shared e.last in
     record {
-      owned = rotated-left-single _ _ c.args.root c.take-apart-upper.result _ _ c.requires.numbered e.owned _ _ c.stored-height-outer.ensures c.stored-height-inner.ensures _ _ _ _ outer c.build-below.ensures.owned c.build.ensures.owned;
+      owned = rotated-left-single _ _ c.args.root c.take_apart-upper.result _ _ c.requires.numbered e.owned _ _ c.stored_height-outer.ensures c.stored_height-inner.ensures _ _ _ _ outer c.build-below.ensures.owned c.build.ensures.owned;
       used = omega (arith, c.build-below.ensures.used, c.build.ensures.used);
       single = λ nested l r hs h leans one.
           let less = e.last (ap (λ (x : Node). x.count) e.node ∙ one) in

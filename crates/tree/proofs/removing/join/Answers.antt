@@ -10,24 +10,24 @@ pub returns-then-right-eq0 : goal.returns-then-right-eq0
 returns-then-right-eq0 c =
     record { owned = joined-left _ _ _ c.if-right-eq0.true; used = λ l r hs h. omega arith; size = refl }
 
-pub take-first-first-requires : goal.take-first-first-requires
-take-first-first-requires c = record { ready = right-goes _ _ _ c.requires.ready; numbered = omega (arith, c.if-right-eq0.false) }
+pub take_first-first-requires : goal.take_first-first-requires
+take_first-first-requires c = record { ready = right-goes _ _ _ c.requires.ready; numbered = omega (arith, c.if-right-eq0.false) }
 
 pub balance-requires : goal.balance-requires
 balance-requires c =
-    let f = c.take-first-first.ensures in
+    let f = c.take_first-first.ensures in
     let some : 0 < c.args.right = omega (arith, c.if-right-eq0.false) in
     record {
-      ready = joined-balanceable _ _ _ _ c.take-first-first.result.node _ some f.owned c.requires.ready;
+      ready = joined-balanceable _ _ _ _ c.take_first-first.result.node _ some f.owned c.requires.ready;
       room = omega (arith, f.used c.requires.ready.r (second-carries _ _ _ _ _ _ c.requires.ready.holds), f.size, c.requires.ready.room);
     }
 
 pub returns : goal.returns
 returns c =
-    let f = c.take-first-first.ensures in
+    let f = c.take_first-first.ensures in
     let some : 0 < c.args.right = omega (arith, c.if-right-eq0.false) in
     record {
-      owned = joined-both _ _ _ _ c.take-first-first.result.node _ some f.owned (omega (arith, c.if-left-eq0.false)) _ _ c.balance.ensures.owned;
+      owned = joined-both _ _ _ _ c.take_first-first.result.node _ some f.owned (omega (arith, c.if-left-eq0.false)) _ _ c.balance.ensures.owned;
       used = λ l r hs h. omega (arith, f.used r (second-carries _ _ _ l r hs h), c.balance.ensures.used);
       size = c.balance.ensures.size ∙ f.size;
     }

@@ -15,22 +15,22 @@ release-lower-requires t c =
     let some = held-used _ _ _ _ c.requires.2 n in
     record { numbered = n; within = used-within _ _ some; some = some }
 
-pub release-give-back-requires : goal.release-give-back-requires
-release-give-back-requires t c =
+pub release-give_back-requires : goal.release-give_back-requires
+release-give_back-requires t c =
     let n : 0 < c.args.n = omega arith in
     record { numbered = n; within = used-within _ _ (held-used _ _ _ _ c.requires.2 n); some = held-some _ _ _ _ c.requires.2 n }
 
-pub release-release-links-requires : goal.release-release-links-requires
-release-release-links-requires t c =
-    let one : c.read-node.result.count ≤ 1 = ltb-false _ _ (sym c.is-shared.ensures ∙ c.if-is-shared.false) in
+pub release-release_links-requires : goal.release-release_links-requires
+release-release_links-requires t c =
+    let one : c.read-node.result.count ≤ 1 = ltb-false _ _ (sym c.is_shared.ensures ∙ c.if-is_shared.false) in
     let n : 0 < c.args.n = omega arith in
     let some = held-some _ _ _ _ c.requires.2 n in
-    let g = gave-back-links _ _ _ c.give-back.ensures.memory c.give-back.ensures.free c.give-back.ensures.used _ c.read-node.ensures one _ _ n c.requires.2 in
-    (omega (arith, c.decreases, c.give-back.ensures.used, some), (g.0, g.1, g.2, _, g.3))
+    let g = gave-back-links _ _ _ c.give_back.ensures.memory c.give_back.ensures.free c.give_back.ensures.used _ c.read-node.ensures one _ _ n c.requires.2 in
+    (omega (arith, c.decreases, c.give_back.ensures.used, some), (g.0, g.1, g.2, _, g.3))
 
-pub release-returns-then-is-shared : goal.release-returns-then-is-shared
-release-returns-then-is-shared t c =
-    let many : 1 < c.read-node.result.count = ltb-true _ _ (sym c.is-shared.ensures ∙ c.if-is-shared.true) in
+pub release-returns-then-is_shared : goal.release-returns-then-is_shared
+release-returns-then-is_shared t c =
+    let many : 1 < c.read-node.result.count = ltb-true _ _ (sym c.is_shared.ensures ∙ c.if-is_shared.true) in
     record {
       owned = released _ _ _ c.lower.ensures.memory c.lower.ensures.free c.lower.ensures.used _ c.read-node.ensures many;
       fewer = omega (arith, c.lower.ensures.used);
@@ -39,20 +39,20 @@ release-returns-then-is-shared t c =
       size = c.lower.ensures.size;
     }
 
-pub release-returns-else-is-shared : goal.release-returns-else-is-shared
-release-returns-else-is-shared t c =
-    let one : c.read-node.result.count ≤ 1 = ltb-false _ _ (sym c.is-shared.ensures ∙ c.if-is-shared.false) in
+pub release-returns-else-is_shared : goal.release-returns-else-is_shared
+release-returns-else-is_shared t c =
+    let one : c.read-node.result.count ≤ 1 = ltb-false _ _ (sym c.is_shared.ensures ∙ c.if-is_shared.false) in
     let n : 0 < c.args.n = omega arith in
-    let less : c.release-links.new.self.used < c.args.self.now.used =
-    omega (arith, c.give-back.ensures.used, c.release-links.ensures.fewer, held-some _ _ _ _ c.requires.2 n) in
+    let less : c.release_links.new.self.used < c.args.self.now.used =
+    omega (arith, c.give_back.ensures.used, c.release_links.ensures.fewer, held-some _ _ _ _ c.requires.2 n) in
     record {
       owned = λ u hs h.
-          let g = gave-back-links _ _ _ c.give-back.ensures.memory c.give-back.ensures.free c.give-back.ensures.used _ c.read-node.ensures one u hs n h in
-          c.release-links.ensures.owned _ _ _ hs g.3;
+          let g = gave-back-links _ _ _ c.give_back.ensures.memory c.give_back.ensures.free c.give_back.ensures.used _ c.read-node.ensures one u hs n h in
+          c.release_links.ensures.owned _ _ _ hs g.3;
       fewer = omega arith;
       shared = λ k. omega (arith, k, ap (λ (x : Node). x.count) c.read-node.ensures);
       last = λ k. less;
-      size = c.release-links.ensures.size ∙ c.give-back.ensures.size;
+      size = c.release_links.ensures.size ∙ c.give_back.ensures.size;
     }
 
 pub release-returns-else-n-ne0 : goal.release-returns-else-n-ne0

@@ -2,8 +2,8 @@ use Rattle.std.proofs.Common.{arith}
 use Rattle.pool.proofs.Pools.{take-free, took, took-fresh}
 use Rattle.pool.proofs.pool.Pool.take.Goals as goal
 
-pub fill-first-requires : goal.fill-first-requires
-fill-first-requires c =
+pub fill_first-requires : goal.fill_first-requires
+fill_first-requires c =
     let f = take-free _ _ c.requires.held.4 c.requires.room in
     record { numbered = f.0; within = f.1; next = f.2; small = f.3; room = c.requires.room }
 

@@ -9,8 +9,8 @@ pub read-node-requires : goal.read-node-requires
 read-node-requires c =
     record { numbered = c.requires.numbered; within = used-within _ _ (held-used _ _ _ _ c.requires.held.2 c.requires.numbered) }
 
-pub give-back-requires : goal.give-back-requires
-give-back-requires c =
+pub give_back-requires : goal.give_back-requires
+give_back-requires c =
     record {
       numbered = c.requires.numbered;
       within = used-within _ _ (held-used _ _ _ _ c.requires.held.2 c.requires.numbered);
@@ -22,11 +22,11 @@ lower-requires c =
     let some = held-used _ _ _ _ c.requires.held.2 c.requires.numbered in
     record { numbered = c.requires.numbered; within = used-within _ _ some; some = some }
 
-pub retain-links-requires : goal.retain-links-requires
-retain-links-requires c =
+pub retain_links-requires : goal.retain_links-requires
+retain_links-requires c =
     let e = c.lower.ensures in
     let f = held-fork _ _ _ _ c.requires.numbered c.requires.held.2 in
-    let many : 1 < c.read-node.result.count = ltb-true _ _ (sym c.is-shared.ensures ∙ c.if-is-shared.true) in (
+    let many : 1 < c.read-node.result.count = ltb-true _ _ (sym c.is_shared.ensures ∙ c.if-is_shared.true) in (
       f.0,
       f.1,
       f.2,
@@ -36,25 +36,25 @@ retain-links-requires c =
       c.requires.held.3,
     )
 
-pub returns-then-is-shared : goal.returns-then-is-shared
-returns-then-is-shared c =
+pub returns-then-is_shared : goal.returns-then-is_shared
+returns-then-is_shared c =
     let e = c.lower.ensures in
-    let many : 1 < c.read-node.result.count = ltb-true _ _ (sym c.is-shared.ensures ∙ c.if-is-shared.true) in
+    let many : 1 < c.read-node.result.count = ltb-true _ _ (sym c.is_shared.ensures ∙ c.if-is_shared.true) in
     record {
       node = c.read-node.ensures;
       owned = λ key word height nested left right hs h.
           taken-apart _ _ _ _ c.read-node.ensures key word height nested left right hs h
-          (holds-swapped _ _ _ _ (c.retain-links.ensures.owned nested left right hs (released _ _ _ e.memory e.free e.used _ c.read-node.ensures many _ _ h)
+          (holds-swapped _ _ _ _ (c.retain_links.ensures.owned nested left right hs (released _ _ _ e.memory e.free e.used _ c.read-node.ensures many _ _ h)
           (released-links _ _ _ e.memory e.free e.used _ c.read-node.ensures many key word height nested left right hs h)));
-      shared = λ k. c.retain-links.ensures.used ∙ e.used;
+      shared = λ k. c.retain_links.ensures.used ∙ e.used;
       last = λ k. omega arith;
-      size = c.retain-links.ensures.size ∙ e.size;
+      size = c.retain_links.ensures.size ∙ e.size;
     }
 
-pub returns-else-is-shared : goal.returns-else-is-shared
-returns-else-is-shared c =
-    let e = c.give-back.ensures in
-    let one : c.read-node.result.count ≤ 1 = ltb-false _ _ (sym c.is-shared.ensures ∙ c.if-is-shared.false) in
+pub returns-else-is_shared : goal.returns-else-is_shared
+returns-else-is_shared c =
+    let e = c.give_back.ensures in
+    let one : c.read-node.result.count ≤ 1 = ltb-false _ _ (sym c.is_shared.ensures ∙ c.if-is_shared.false) in
     record {
       node = c.read-node.ensures;
       owned = λ key word height nested left right hs h.

@@ -4,8 +4,8 @@ use Rattle.register.specs.Tables.{live}
 use Rattle.register.proofs.Tables.{live-le, live_more}
 use Rattle.register.proofs.table.Table.live.Goals as goal
 
-pub overflow-add-count : goal.overflow-add-count
-overflow-add-count c = search (rules, live-le, length-take)
+pub overflow_add-count : goal.overflow_add-count
+overflow_add-count c = search (rules, live-le, length-take)
 
 pub loop-record-preserved : goal.loop-record-preserved
 loop-record-preserved c =

@@ -22,8 +22,8 @@ returns-in-Negative c =
       written = reading-written (text_of c.args.self.now);
     }
 
-pub returns-in-default : goal.returns-in-default
-returns-in-default c = record {
+pub returns-in_default : goal.returns-in_default
+returns-in_default c = record {
   value = λ lexed. absurd (omega (arith, number_small (text_of c.args.self.now) c.in-Number.value (field-number c.args.self.now c.in-Number.field-0 c.in-Number.value c.in-Number.is lexed)));
   written = reading-written (text_of c.args.self.now);
 }
