@@ -6,6 +6,7 @@ use seplogic.Ra.Ura.{Ura}
 use mir.Syntax.{Dict}
 use prog.Model.{Model}
 use prog.Routine.{Env}
+use Rattle.std.specs.declared.clone.Clone.{Ghosts as CloneMembers}
 use Rattle.tree.specs.Kind.{Kind}
 use Rattle.tree.specs.Value.{ValueKind}
 use Rattle.tree.specs.contracts.key.Key.TheBound.{Met as KeyMet}
@@ -15,8 +16,8 @@ use Rattle.tree.specs.declared.value.Value.{Ghosts as ValueMembers}
 
 -- in a generic answer: kind_of g.met.K.Key
 abbrev pub kind_of : {M : Type 1} {𝓤 : Ura M} {𝓛 : Logic 𝓤} {𝓜 : Model 𝓤 𝓛.H} {𝓡 : Running 𝓤 𝓛.H 𝓜} {γ : Env}
-    {K : RattleType} {members : KeyMembers K.Denot} {dictionary : Dict}
-    → KeyMet 𝓛 𝓜 𝓡 γ K members dictionary → Kind K.Denot
+    {K : RattleType} {members : KeyMembers K.Denot} {dictionary : Dict} {cloned : CloneMembers K.Denot} {cloning : Dict}
+    → KeyMet 𝓛 𝓜 𝓡 γ K members dictionary cloned cloning → Kind K.Denot
 kind_of {members = members} met = record {
   words = members.words;
   key = members.key;
@@ -29,10 +30,10 @@ kind_of {members = members} met = record {
   chained = met.chained;
 }
 
--- in a generic answer: valueKindOf g.met.V.Value
+-- in a generic answer: value_kind_of g.met.V.Value
 abbrev pub value_kind_of : {M : Type 1} {𝓤 : Ura M} {𝓛 : Logic 𝓤} {𝓜 : Model 𝓤 𝓛.H} {𝓡 : Running 𝓤 𝓛.H 𝓜} {γ : Env}
-    {V : RattleType} {members : ValueMembers V.Denot} {dictionary : Dict}
-    → ValueMet 𝓛 𝓜 𝓡 γ V members dictionary → ValueKind V.Denot
+    {V : RattleType} {members : ValueMembers V.Denot} {dictionary : Dict} {cloned : CloneMembers V.Denot} {cloning : Dict}
+    → ValueMet 𝓛 𝓜 𝓡 γ V members dictionary cloned cloning → ValueKind V.Denot
 value_kind_of {members = members} met = record {
   word = members.word;
   nested = members.nested;

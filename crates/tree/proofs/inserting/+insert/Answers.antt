@@ -144,7 +144,7 @@ returns-in-Greater g t c =
           let after = whole-behind d.trees u carries place behind in
           let side = c.insert-right.ensures.appended _ carried after.1 in
           let one : used_of c.balance-in-Greater.new.pool ≡ used_of c.insert-right.new.pool + 1 =
-          appended-used d _ _ e.owned place (g.K.Key.words c.args.key) (g.V-as-Value.word c.args.value) c.insert-right.new.pool c.balance-in-Greater.new.pool c.insert-right.result c.insert-right.ensures.owned after.1 c.insert-right.ensures.fresh c.balance-in-Greater.ensures.level c.balance-in-Greater.ensures.single in
+          appended-used d _ _ e.owned place (g.K.Key.words c.args.key) (g.V.Value.word c.args.value) c.insert-right.new.pool c.balance-in-Greater.new.pool c.insert-right.result c.insert-right.ensures.owned after.1 c.insert-right.ensures.fresh c.balance-in-Greater.ensures.level c.balance-in-Greater.ensures.single in
           omega (arith, standing-height (standing d.trees) u carries, d.balanced.0, fewer, side, one);
       fresh = c.balance-in-Greater.ensures.fresh;
       size = c.balance-in-Greater.ensures.size ∙ c.insert-right.ensures.size ∙ e.size;

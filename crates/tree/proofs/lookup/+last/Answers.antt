@@ -9,7 +9,7 @@ use Rattle.tree.proofs.lookup.+last.Goals as goal
 
 pub returns-then-root-eq0 : goal.returns-then-root-eq0
 returns-then-root-eq0 g t c =
-    let P : Option (Item g.row.K.Denot) → Type 0 = λ o. GivenItem c.args.pool.now g.V-as-Value.value o None in
+    let P : Option (Item g.row.K.Denot) → Type 0 = λ o. GivenItem c.args.pool.now g.V.Value.value o None in
     let a = last_none c.args.pool.now c.args.root c.if-root-eq0.true g.K.Key.key g.K.Key.order P tt in
     record { answered = a; listed = last-listed (kind_of g.met.K.Key) _ _ P a }
 
@@ -22,8 +22,8 @@ last-requires g t c κs =
 pub returns : goal.returns
 returns g t c =
     let n : 0 < c.args.root = omega arith in
-    let P : Option (Item g.row.K.Denot) → Type 0 = λ o. GivenItem c.args.pool.now g.V-as-Value.value o c.or_item.result in
+    let P : Option (Item g.row.K.Denot) → Type 0 = λ o. GivenItem c.args.pool.now g.V.Value.value o c.or_item.result in
     let a = last-by _ _ c.requires.held.1 _ n _ c.node-node.ensures g.K.Key.key g.K.Key.order P (λ nested left right ls.
-    either-given _ g.K.Key.key g.V-as-Value.value _ _ _ _ ls (last g.K.Key.key g.K.Key.order right) c.last.result c.or_item.result c.or_item.ensures
+    either-given _ g.K.Key.key g.V.Value.value _ _ _ _ ls (last g.K.Key.key g.K.Key.order right) c.last.result c.or_item.result c.or_item.ensures
     (c.last.ensures.answered right (side-carries _ _ _ _ _ ls Greater _ c.side.ensures))) in
     record { answered = a; listed = last-listed (kind_of g.met.K.Key) _ _ P a }
