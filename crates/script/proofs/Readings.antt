@@ -24,9 +24,9 @@ pub reading-none : (text : List ℕ) → number_of text ≡ None → magnitude_o
 reading-none text none no_sign = ap (λ o. option_or (option_map pos o) (option_map (λ m. neg_ℤ (pos m)) (magnitude_of text))) none ∙ ap (option_map (λ m. neg_ℤ (pos m))) no_sign
 
 -- the number after a minus sign, where the first byte is one, and where it is not
-pub after_minus : (text : List ℕ) → 0 < length text → get_or text 0 0 ≡ 45 → number_of (take (length text - 1) (drop 1 text)) ≡ after_minus text
-after_minus [] some sign = absurd (omega arith)
-after_minus (first ∷ rest) some sign =
+pub after_minus_lem : (text : List ℕ) → 0 < length text → get_or text 0 0 ≡ 45 → number_of (take (length text - 1) (drop 1 text)) ≡ after_minus text
+after_minus_lem [] some sign = absurd (omega arith)
+after_minus_lem (first ∷ rest) some sign =
     ap number_of (take_rest (first ∷ rest) 1) ∙ sym (cond-true (eqb first 45) (number_of rest) None (eq-eqb first 45 sign))
 
 pub after_none : (text : List ℕ) → (0 < length text → get_or text 0 0 ≡ 45 → ⊥) → None ≡ after_minus text

@@ -28,11 +28,11 @@ returns-in_default c = record {
   written = reading-written (text_of c.args.self.now);
 }
 
-pub returns-in-default·2 : goal.returns-in-default·2
-returns-in-default·2 c = record {
+pub returns-in_default-2 : goal.returns-in_default-2
+returns-in_default-2 c = record {
   value = λ lexed. absurd (omega (arith, magnitude-small (text_of c.args.self.now) c.in-Negative.magnitude (field-negative c.args.self.now c.in-Negative.field-0 c.in-Negative.magnitude c.in-Negative.is lexed).1));
   written = reading-written (text_of c.args.self.now);
 }
 
-pub returns-in-default·3 : goal.returns-in-default·3
-returns-in-default·3 c = record { value = λ lexed. search (rules, word-reading); written = reading-written (text_of c.args.self.now) }
+pub returns-in_default-3 : goal.returns-in_default-3
+returns-in_default-3 c = record { value = λ lexed. search (rules, word-reading); written = reading-written (text_of c.args.self.now) }
