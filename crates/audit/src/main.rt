@@ -4,6 +4,7 @@
 
 ghost use Rattle.std.specs.Prelude.{◌≤◌, length, IfOk};
 
+use anyhow::anyhow;
 use pool::Node;
 use register::Refusal;
 use script::{Stopped, run};
@@ -55,7 +56,7 @@ fn audit(rt: &HostRuntime) -> anyhow::Result<()> {
         }
         Err(Stopped { length, why }) => {
             rt.stdout().write_all(&report[0..length])?;
-            Err(reason(why).into())
+            Err(anyhow!("{}", reason(why)))
         }
     }
 }
