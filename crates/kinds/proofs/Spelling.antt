@@ -1,5 +1,5 @@
 -- A name stands for the bytes that it was made of.
-use Rattle.std.proofs.Common.{◌≡◌, ℕ, ◌<◌, List, [], length, drop, Some, sym, ap, ◌∙◌, ⊎_elim, append-nil, arith, length-drop}
+use Rattle.std.proofs.Common.{◌≡◌, ℕ, ◌<◌, List, [], drop, Some, sym, ap, ◌∙◌, ⊎_elim, append-nil, arith, length-drop}
 use Rattle.std.proofs.ByRecursion.{All-drop, All-from_get_or, All-weaker}
 use Rattle.std.proofs.lemmas.List.{drop_all}
 use Rattle.std.specs.List.{AllByRecursion as All}

@@ -4,12 +4,11 @@ use Rattle.std.proofs.Common.{◌≡◌, ℕ, ◌+◌, ◌<◌, ◌≤◌, List,
 use native.Mathlib.Bridge.{le_prop}
 use native.Mathlib.Nat.{ℕ_set}
 use lib.IntN.{ℤ_set}
-use Rattle.std.specs.List.{AllByRecursion as All}
 use Rattle.pool.proofs.Trees.{linked-unique}
-use Rattle.pool.specs.FreeList.{Chain, busy, idle}
-use Rattle.pool.specs.Held.{Carried, Held, Holds, HoldsIn, node_of}
+use Rattle.pool.specs.FreeList.{Chain, idle}
+use Rattle.pool.specs.Held.{Carried, Held, Holds, node_of}
 use Rattle.pool.specs.Node.{free_node, node_at}
-use Rattle.pool.specs.Owners.{links_to, times}
+use Rattle.pool.specs.Owners.{times}
 use Rattle.pool.specs.Sound.{SoundIn}
 use Rattle.pool.specs.Tree.{Linked, Tree, fork, leaf}
 use Rattle.pool.specs.declared.node.Node.{Node}

@@ -1,5 +1,5 @@
 -- A line that was just opened or fetched is at rest, and so is one whose stowing was declined.
-use Rattle.std.proofs.Common.{◌≡◌, ℕ, zero, suc, ◌<◌, Bool, true, false, eqb, ltb, List, [], ◌∷◌, length, get_or, set, is_some, Some, None, Ok, Err, Option, Result, sym, refl, ap, ◌∙◌, arith, length-set, get_or-set_same, lt-ltb, eq-eqb}
+use Rattle.std.proofs.Common.{◌≡◌, ℕ, suc, ◌<◌, Bool, true, false, ltb, List, [], ◌∷◌, length, get_or, set, Some, None, Ok, Err, Option, Result, sym, refl, ap, ◌∙◌, arith, length-set, get_or-set_same, lt-ltb, eq-eqb}
 use Rattle.std.specs.Option.{option_map}
 use Rattle.register.specs.Lines.{at_rest, is_letter, opened, stowed, stow_declined, fetched}
 use Rattle.register.specs.Shown.{Shown}

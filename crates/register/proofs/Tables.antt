@@ -1,7 +1,6 @@
 -- Facts about the lowest place in a state and the number of live lines.
-use Rattle.std.proofs.Common.{◌≡◌, ℕ, zero, suc, ◌+◌, ◌<◌, ◌≤◌, Bool, true, false, cond, List, [], ◌∷◌, ◌++◌, length, get_or, take, Some, None, sym, refl, ap, ◌∙◌, suc-le-suc, zero-le, add-zero, add_assoc, zero-add, arith}
-use Rattle.std.specs.Option.{option_map}
-use Rattle.std.proofs.lemmas.List.{take_more, length-take}
+use Rattle.std.proofs.Common.{◌≡◌, ℕ, zero, suc, ◌+◌, ◌<◌, ◌≤◌, true, false, cond, List, [], ◌∷◌, ◌++◌, length, get_or, take, Some, None, refl, arith}
+use Rattle.std.proofs.lemmas.List.{take_more}
 use Rattle.register.specs.Tables.{same_state, vacant, lowest, live}
 use Rattle.register.specs.declared.table.Record.{Record}
 use Rattle.register.specs.declared.table.State.{State}

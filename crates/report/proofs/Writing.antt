@@ -1,5 +1,5 @@
 -- One write behind another: what two writes do together.
-use Rattle.std.proofs.Common.{◌≡◌, ℕ, ◌+◌, ◌<◌, ◌≤◌, List, [], ◌∷◌, ◌++◌, length, get_or, take, set, IsErrAnd, Ok, Err, Result, sym, refl, ap, ◌∙◌, append_assoc, append-nil, arith, length-append, length-set, length-take}
+use Rattle.std.proofs.Common.{ℕ, ◌+◌, ◌<◌, ◌≤◌, List, [], ◌∷◌, ◌++◌, length, get_or, take, set, IsErrAnd, Ok, Err, Result, sym, refl, ap, ◌∙◌, append_assoc, append-nil, arith, length-append, length-set, length-take}
 use Rattle.std.proofs.lemmas.List.{take_more, take_more_set, take-set, take-take}
 use Rattle.report.specs.declared.cursor.Full.{Full}
 use Rattle.report.specs.Writing.{Added, Lacking, Writes}

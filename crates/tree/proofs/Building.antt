@@ -1,5 +1,5 @@
 -- What a pool holds once a root was put over two sides.
-use Rattle.std.proofs.Common.{◌≡◌, ℕ, suc, ◌+◌, ◌<◌, ◌≤◌, max, List, [], ◌∷◌, map, sym, refl, ap, ◌∙◌, subst, arith}
+use Rattle.std.proofs.Common.{◌≡◌, ℕ, suc, max, List, ◌∷◌, sym, subst, arith}
 use Rattle.pool.proofs.Pools.{held-carries}
 use Rattle.pool.proofs.Reorder.{holds-reordered}
 use Rattle.pool.specs.Held.{Carries, Held, Holds, held}

@@ -1,5 +1,5 @@
 -- What a pool holds on the way through an insert.
-use Rattle.std.proofs.Common.{◌≡◌, ℕ, suc, ◌+◌, ◌*◌, ◌^◌, ◌<◌, ◌≤◌, max, List, ◌∷◌, length, ℤ, Ordering, Less, Equal, Greater, sym, refl, ◌∙◌, subst, inl, inr, arith}
+use Rattle.std.proofs.Common.{◌≡◌, ℕ, ◌+◌, ◌*◌, ◌^◌, ◌<◌, ◌≤◌, List, ◌∷◌, length, ℤ, Ordering, Less, Equal, Greater, sym, refl, ◌∙◌, subst, inl, inr, arith}
 use Rattle.std.proofs.lemmas.Bool.{cases_lt}
 use Rattle.pool.proofs.Pools.{held-carries, holds-leaf}
 use Rattle.pool.proofs.Trees.{same-fork}

@@ -1,5 +1,5 @@
 -- What the laws of a kind give for comparisons, and what ascending says of a list around one item.
-use Rattle.std.proofs.Common.{◌≡◌, List, [], ◌∷◌, ◌++◌, Ordering, Less, Equal, Greater, sym, refl, ap, ◌∙◌, subst}
+use Rattle.std.proofs.Common.{◌≡◌, List, [], ◌∷◌, ◌++◌, Less, Equal, Greater, sym, refl, ap, ◌∙◌, subst}
 use Rattle.std.specs.List.{AllByRecursion as All}
 use Rattle.tree.specs.Kind.{Kind}
 use Rattle.tree.specs.Shape.{Item, Ascending}

@@ -1,5 +1,5 @@
 -- What a pool holds on the way through a remove.
-use Rattle.std.proofs.Common.{◌≡◌, ℕ, suc, ◌+◌, ◌*◌, ◌^◌, ◌<◌, ◌≤◌, max, List, ◌∷◌, length, ℤ, Ordering, Less, Equal, Greater, sym, refl, ap, ◌∙◌, subst, arith}
+use Rattle.std.proofs.Common.{◌≡◌, ℕ, suc, ◌+◌, ◌*◌, ◌^◌, ◌<◌, ◌≤◌, max, List, ◌∷◌, length, ℤ, Ordering, Less, Equal, Greater, sym, refl, subst, arith}
 use Rattle.pool.proofs.Pools.{held-carries, holds-nothing}
 use Rattle.pool.proofs.Reorder.{holds-swapped}
 use Rattle.pool.specs.Held.{Carries, Held, Holds, held}

@@ -1,4 +1,4 @@
-use Rattle.std.proofs.Common.{◌≡◌, ℕ, ◌+◌, sym, refl, ap, ◌∙◌, add-one, arith}
+use Rattle.std.proofs.Common.{◌≡◌, ℕ, ◌+◌, refl, ap, ◌∙◌, add-one, arith}
 use Rattle.register.specs.Shown.{Shown, shown}
 use Rattle.script.specs.Runs.{cleared, retired_on}
 use Rattle.script.proofs.runner.clear.Goals as goal

@@ -1,7 +1,7 @@
-use Rattle.std.proofs.Common.{◌≡◌, true, is_err, Ok, Err, Result, sym, refl, ap, ◌∙◌, arith}
+use Rattle.std.proofs.Common.{◌∙◌, arith}
 use Rattle.register.specs.Shown.{shown}
 use Rattle.script.specs.Fields.{left}
-use Rattle.script.specs.Scripts.{report_of, RanLines}
+use Rattle.script.specs.Scripts.{report_of}
 use Rattle.script.proofs.Running.{refusals-le, stopped, turn-empty, turn-line, turn-full, turn-none}
 use Rattle.script.proofs.runner.run_lines.Goals as goal
 use Rattle.script.proofs.runner.run_lines.Goals.{then-start-end+in_ok-counts, else-start-end}

@@ -1,4 +1,4 @@
-use Rattle.std.proofs.Common.{◌≡◌, ℕ, ◌+◌, ◌<◌, ◌≤◌, Ordering, Less, Equal, Greater, sym, ap, ◌∙◌, arith}
+use Rattle.std.proofs.Common.{◌≡◌, ◌+◌, ◌<◌, Less, Greater, sym, ◌∙◌, arith}
 use Rattle.pool.specs.Sound.{used_of}
 use Rattle.tree.proofs.Inserted.{appended-used, entry-sides, inserted-equal, inserted-greater, inserted-leaf, inserted-less, left-balanceable, left-insertable, low-fork, none-present, not_behind, old-first, present-side, right-balanceable, right-insertable, standing, whole-behind}
 use Rattle.tree.proofs.Rotating.{apart-fewer}

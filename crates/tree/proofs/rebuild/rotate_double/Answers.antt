@@ -1,6 +1,6 @@
-use Rattle.std.proofs.Common.{◌≡◌, ◌<◌, ◌≤◌, ◌∙◌, arith}
+use Rattle.std.proofs.Common.{◌∙◌, arith}
 use Rattle.pool.specs.Sound.{used_of}
-use Rattle.tree.proofs.Rotating.{Three, apart-fewer, lower-sides, middle-first, middle-numbered, new-sides, rotated-double, three, upper-sides}
+use Rattle.tree.proofs.Rotating.{apart-fewer, lower-sides, middle-first, middle-numbered, new-sides, rotated-double, three, upper-sides}
 use Rattle.tree.proofs.rebuild.rotate_double.Goals as goal
 
 pub take_apart-root-requires : goal.take_apart-root-requires

@@ -1,4 +1,4 @@
-use Rattle.std.proofs.Common.{◌<◌, ◌≤◌, sym, refl, ◌∙◌, arith}
+use Rattle.std.proofs.Common.{◌<◌, sym, refl, ◌∙◌, arith}
 use Rattle.pool.specs.Sound.{used_of}
 use Rattle.tree.proofs.Removed.{left-removable, left-shrunk, low-standing, removed-equal, removed-greater, removed-leaf, removed-less, right-removable, right-shrunk, root-leaving}
 use Rattle.tree.proofs.Rotating.{apart-fewer}

@@ -1,4 +1,4 @@
-use Rattle.std.proofs.Common.{◌<◌, ◌≤◌, ◌∙◌, arith}
+use Rattle.std.proofs.Common.{◌<◌, ◌∙◌, arith}
 use Rattle.pool.specs.Sound.{used_of}
 use Rattle.tree.proofs.Removed.{first-here, first-lower, left-removable, low-standing, rest-balanceable}
 use Rattle.tree.proofs.Rotating.{apart-fewer}

@@ -1,4 +1,3 @@
-use Rattle.std.proofs.Common.{arith}
 use Rattle.pool.proofs.Pools.{take-free, took, took-fresh}
 use Rattle.pool.proofs.pool.Pool.take.Goals as goal
 
