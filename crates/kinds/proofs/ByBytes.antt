@@ -1,6 +1,6 @@
 -- The order of two names' words is the order of their bytes, as in a dictionary.
 use Rattle.std.proofs.Common.{◌≡◌, ℕ, zero, suc, ◌+◌, ◌*◌, ◌^◌, ◌<◌, ◌≤◌, true, false, ltb, List, [], ◌∷◌, drop, Ordering, Less, Equal, Greater, sym, refl, ap, ◌∙◌, mul-le-mul_right, add-mul, arith, ltb-false, ltb-true, le-ltb, lt-ltb}
-use Rattle.std.specs.List.{AllByRecursion as All}
+use Rattle.std.specs.List.{AllByRecursion}
 use Rattle.kinds.specs.Lexical.{by_words, lexical, next}
 use Rattle.kinds.specs.Name.{IsName}
 use Rattle.kinds.specs.Packed.{name_of, packed, weighed}
@@ -56,7 +56,7 @@ weighs k x xs some =
     omega arith
 
 -- the first places by their number, then what is behind them
-weighed-lexical : (k : ℕ) (xs ys : List ℕ) → All (λ x. 0 < x) xs → Bytes xs → All (λ y. 0 < y) ys → Bytes ys
+weighed-lexical : (k : ℕ) (xs ys : List ℕ) → AllByRecursion (λ x. 0 < x) xs → Bytes xs → AllByRecursion (λ y. 0 < y) ys → Bytes ys
     → next (numeric (weighed k xs) (weighed k ys)) (lexical (drop k xs) (drop k ys)) ≡ lexical xs ys
 unfolding weighed
 weighed-lexical zero xs ys px bx py by = refl

@@ -2,11 +2,11 @@
 use Rattle.std.proofs.Common.{◌≡◌, ℕ, zero, suc, ◌+◌, ◌*◌, ◌/◌, ◌%◌, ◌^◌, ◌<◌, ◌≤◌, false, eqb, List, [], ◌∷◌, ◌++◌, get_or, drop, sym, refl, ap, ◌∙◌, mul-le-mul_right, mul_assoc, mul_comm, add-mul, pow-suc, add-one, arith, ne_eqb}
 use native.Mathlib.Nat.{zero-div, div-eq_of_lt, mul-add-div_right, mul-add-mod_self_right, pow-le-pow_right}
 use Rattle.std.proofs.lemmas.List.{get_or-drop}
-use Rattle.std.specs.List.{AllByRecursion as All}
+use Rattle.std.specs.List.{AllByRecursion}
 use Rattle.kinds.specs.Packed.{weighed, digits, front}
 
 abbrev pub Bytes : List ℕ → Type 0
-Bytes xs = All (λ x. x < 256) xs
+Bytes xs = AllByRecursion (λ x. x < 256) xs
 
 pub places-pos : (k : ℕ) → 0 < 256 ^ k
 places-pos zero = omega arith
@@ -60,7 +60,7 @@ digits-weighed k x xs small all =
     rw head (ap (λ tail. x ∷ tail) (digits_above k x (weighed k xs)))
 
 -- bytes other than zero are the front of their digits
-pub front-digits : (k : ℕ) (xs zs : List ℕ) → All (λ x. 0 < x) xs → Bytes xs → front zs ≡ drop k xs → front (digits k (weighed k xs) ++ zs) ≡ xs
+pub front-digits : (k : ℕ) (xs zs : List ℕ) → AllByRecursion (λ x. 0 < x) xs → Bytes xs → front zs ≡ drop k xs → front (digits k (weighed k xs) ++ zs) ≡ xs
 front-digits zero xs zs full all e = e
 front-digits (suc k) [] zs full all e =
     let none : weighed (suc k) [] / 256 ^ k % 256 ≡ 0 = rw (weighed-nil, zero-div) refl in

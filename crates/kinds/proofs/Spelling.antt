@@ -2,7 +2,7 @@
 use Rattle.std.proofs.Common.{◌≡◌, ℕ, ◌<◌, List, [], drop, Some, sym, ap, ◌∙◌, ⊎_elim, append-nil, arith, length-drop}
 use Rattle.std.proofs.ByRecursion.{All-drop, All-from_get_or, All-weaker}
 use Rattle.std.proofs.lemmas.List.{drop_all}
-use Rattle.std.specs.List.{AllByRecursion as All}
+use Rattle.std.specs.List.{AllByRecursion}
 use Rattle.kinds.specs.declared.name.Name.{Name}
 use Rattle.kinds.specs.Name.{IsNameByte, IsName}
 use Rattle.kinds.specs.Packed.{Checked, name_of, bytes_of, packed, spelled, weighed, digits, front}
@@ -14,17 +14,17 @@ name-byte-positive b = ⊎_elim (λ h. omega arith) (⊎_elim (λ h. omega arith
 pub name-byte-below : (b : ℕ) → IsNameByte b → b < 256
 name-byte-below b = ⊎_elim (λ h. omega arith) (⊎_elim (λ h. omega arith) (λ h. omega arith))
 
-allowed : (xs : List ℕ) → IsName xs → All IsNameByte xs
+allowed : (xs : List ℕ) → IsName xs → AllByRecursion IsNameByte xs
 allowed xs rule = All-from_get_or IsNameByte xs 0 rule.2
 
-pub positive : (xs : List ℕ) → IsName xs → All (λ x. 0 < x) xs
+pub positive : (xs : List ℕ) → IsName xs → AllByRecursion (λ x. 0 < x) xs
 positive xs rule = All-weaker IsNameByte (λ x. 0 < x) name-byte-positive xs (allowed xs rule)
 
 pub bytes : (xs : List ℕ) → IsName xs → Bytes xs
 bytes xs rule = All-weaker IsNameByte (λ x. x < 256) name-byte-below xs (allowed xs rule)
 
 -- what stands behind the first 8 bytes
-pub positive-behind : (xs : List ℕ) → IsName xs → All (λ x. 0 < x) (drop 8 xs)
+pub positive-behind : (xs : List ℕ) → IsName xs → AllByRecursion (λ x. 0 < x) (drop 8 xs)
 positive-behind xs rule = All-drop (λ x. 0 < x) 8 xs (positive xs rule)
 
 pub bytes-behind : (xs : List ℕ) → IsName xs → Bytes (drop 8 xs)

@@ -2,7 +2,7 @@
 use Rattle.std.proofs.Common.{◌≡◌, ℕ, zero, suc, ◌+◌, ◌-◌, ◌<◌, ◌≤◌, List, [], ◌∷◌, length, get_or, sum_by, refl, ap, ◌∙◌, subst, inl, inr, arith}
 use Rattle.std.proofs.lemmas.List.Sums.{sum_by-cons}
 use Rattle.std.proofs.lemmas.Bool.{cases_eq}
-use Rattle.std.specs.List.{AllByRecursion as All}
+use Rattle.std.specs.List.{AllByRecursion}
 use Rattle.pool.proofs.FreeList.{busy-free, chain-free, idle-free, idle-used}
 use Rattle.pool.proofs.Freeing.{sum-free}
 use Rattle.pool.proofs.Nodes.{node_at_lem, node-free, node-le-sum, used-numbered, used-within}
@@ -146,7 +146,7 @@ module _ (mem : List Node) (free used : ℕ) (roots : List ℕ) (s : SoundIn mem
         | inr ne ↦ absurd (unreached none n h (used-reached n (omega (arith, ne))))
       ]))
 
-none_owned : (roots : List ℕ) → All (λ r. r ≡ 0) roots → (n : ℕ) → 0 < n → times n roots ≡ 0
+none_owned : (roots : List ℕ) → AllByRecursion (λ r. r ≡ 0) roots → (n : ℕ) → 0 < n → times n roots ≡ 0
 none_owned [] a n h = refl
 none_owned (r ∷ roots) a n h = omega (arith, same-other n r (λ e. omega (arith, h, e, a.0)), none_owned roots a.1 n h)
 

@@ -1,6 +1,6 @@
 -- A pool that holds nodes for its outside owners: sound with just these owners, and each carries its tree.
 use Rattle.std.specs.Prelude.{◌≡◌, ℕ, ◌<◌, List, ◌∷◌, map, ℤ}
-use Rattle.std.specs.List.{AllByRecursion as All}
+use Rattle.std.specs.List.{AllByRecursion}
 use Rattle.pool.specs.Node.{node_at}
 use Rattle.pool.specs.Sound.{SoundIn, memory_of}
 use Rattle.pool.specs.Tree.{Linked, Tree}
@@ -21,7 +21,7 @@ node_of h = h.node
 
 -- each owner's node carries the owner's tree
 abbrev pub Carried : List Node → List Held → Type 0
-Carried mem hs = All (λ h. Linked mem h.node h.tree) hs
+Carried mem hs = AllByRecursion (λ h. Linked mem h.node h.tree) hs
 
 pub record HoldsIn (mem : List Node) (free used : ℕ) (hs : List Held) : Type 0 where
   pub sound : SoundIn mem free used (map node_of hs)

@@ -1,6 +1,6 @@
 -- Which nodes an outside owner reaches, and what a sound pool accounts for.
 use Rattle.std.specs.Prelude.{◌≡◌, ℕ, ◌+◌, ◌<◌, ◌≤◌, List, length}
-use Rattle.std.specs.List.{AllByRecursion as All}
+use Rattle.std.specs.List.{AllByRecursion}
 use Rattle.pool.specs.FreeList.{Chain}
 use Rattle.pool.specs.Node.{node_at}
 use Rattle.pool.specs.Owners.{links, links_to, times}
@@ -25,4 +25,4 @@ pub record Accounted (p : Pool) (roots : List ℕ) : Type 0 where
   pub listed : (n : ℕ) → 0 < n → n ≤ length (memory_of p) → (node_at (memory_of p) n).count ≡ 0 → times n chain ≡ 1
   pub unlisted : (n : ℕ) → 0 < n → n ≤ length (memory_of p) → 0 < (node_at (memory_of p) n).count → times n chain ≡ 0
   -- where no outside owner has a node, all nodes are free
-  pub empty : All (λ r. r ≡ 0) roots → used_of p ≡ 0
+  pub empty : AllByRecursion (λ r. r ≡ 0) roots → used_of p ≡ 0

@@ -3,7 +3,7 @@ use Rattle.std.proofs.Common.{◌≡◌, ℕ, ◌+◌, ◌-◌, ◌<◌, ◌≤�
 use Rattle.std.proofs.lemmas.List.{drop_all, take_all, take-take, length-take-le, length-take}
 use Rattle.std.proofs.lemmas.Slice.{between_is}
 use Rattle.std.proofs.lemmas.Bool.{cond-true, cond-false, eqb-true, eqb-false, lt-ltb, le-ltb, cases_Bool, cases_lt}
-use Rattle.std.specs.List.{AllByRecursion as All}
+use Rattle.std.specs.List.{AllByRecursion}
 use Rattle.script.specs.declared.lexer.Field.{Field}
 use Rattle.script.specs.declared.lexer.Lexer.{Lexer}
 use Rattle.script.specs.Lines.{on_first}
@@ -19,7 +19,7 @@ joined-on_first byte [] some = absurd (omega arith)
 joined-on_first byte (field ∷ []) some = refl
 joined-on_first byte (field ∷ next ∷ fields) some = refl
 
-plain-on_first : (byte : ℕ) (fields : List (List ℕ)) → (byte ≡ 9 → ⊥) → All (All (λ byte. byte ≡ 9 → ⊥)) fields → All (All (λ byte. byte ≡ 9 → ⊥)) (on_first byte fields)
+plain-on_first : (byte : ℕ) (fields : List (List ℕ)) → (byte ≡ 9 → ⊥) → AllByRecursion (AllByRecursion (λ byte. byte ≡ 9 → ⊥)) fields → AllByRecursion (AllByRecursion (λ byte. byte ≡ 9 → ⊥)) (on_first byte fields)
 plain-on_first byte [] other all = ((other, tt), tt)
 plain-on_first byte (field ∷ fields) other all = ((other, all.0), all.1)
 

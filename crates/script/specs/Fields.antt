@@ -1,6 +1,6 @@
 -- The fields of a line, parted by tabs: a line of k tabs has k + 1 fields, and a field may be empty.
 use Rattle.std.specs.Prelude.{◌≡◌, ℕ, ◌<◌, cond, List, [], ◌∷◌, ◌++◌, length, take, drop, Some, None, ◌==◌, ◌≢◌, nat_lt}
-use Rattle.std.specs.List.{AllByRecursion as All}
+use Rattle.std.specs.List.{AllByRecursion}
 use Rattle.script.specs.declared.lexer.Field.{Field}
 use Rattle.script.specs.declared.lexer.Field.TheVariants.{Number, Negative, Word}
 use Rattle.script.specs.declared.lexer.Lexer.{Lexer}
@@ -22,7 +22,7 @@ joined_by_tabs (field ∷ next ∷ fields) = field ++ 9 ∷ joined_by_tabs (next
 pub record Parts (line : List ℕ) (fields : List (List ℕ)) : Type 0 where
   pub some : 0 < length fields
   pub whole : joined_by_tabs fields ≡ line
-  pub plain : All (All (λ byte. byte ≢ 9)) fields
+  pub plain : AllByRecursion (AllByRecursion (λ byte. byte ≢ 9)) fields
 
 -- a field's part of the script
 abbrev pub part_of : Field → Part

@@ -1,6 +1,6 @@
 -- A key that is not there: removing it leaves a balanced tree as it is.
 use Rattle.std.proofs.Common.{◌≡◌, ℕ, ◌∷◌, ℤ, Ordering, Equal, sym, refl, ap, ◌∙◌}
-use Rattle.std.specs.List.{AllByRecursion as All}
+use Rattle.std.specs.List.{AllByRecursion}
 use Rattle.pool.specs.Tree.{Tree, fork, leaf}
 use Rattle.pool.specs.declared.node.Words.{Words}
 use Rattle.tree.proofs.Ascends.{all_back, all-front}
@@ -17,7 +17,7 @@ balance-itself words word tall nested left right b =
     balance-level words word nested left right b.1 b.2 ∙ ap (λ (h : ℕ). fork words word h nested left right) (sym b.0)
 
 module _ {K : Type 0} (key : Words → K) (order : K → K → Ordering) (k : K) where
-  pub remove_absent : (t : Tree) → Balanced t → All (λ x. order k x.key ≡ Equal → ⊥) (items key t) → remove (compared key order k) t ≡ t
+  pub remove_absent : (t : Tree) → Balanced t → AllByRecursion (λ x. order k x.key ≡ Equal → ⊥) (items key t) → remove (compared key order k) t ≡ t
   unfolding remove
   remove_absent leaf b h = refl
   remove_absent (fork words word tall nested left right) b h =

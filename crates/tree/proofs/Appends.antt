@@ -1,7 +1,7 @@
 -- Appending: a key that comes after all keys goes down the right side, and one rotation suffices there.
 use Rattle.std.proofs.Common.{◌≡◌, ℕ, suc, ◌+◌, ◌<◌, ◌≤◌, max, [], ◌∷◌, ◌++◌, ℤ, Ordering, Greater, sym, ap, ◌∙◌, inl, inr, append_assoc, arith}
 use Rattle.std.proofs.lemmas.Bool.{cases_lt}
-use Rattle.std.specs.List.{AllByRecursion as All}
+use Rattle.std.specs.List.{AllByRecursion}
 use Rattle.pool.specs.Tree.{Tree, fork, leaf}
 use Rattle.pool.specs.declared.node.Words.{Words}
 use Rattle.tree.proofs.Ascends.{all_back}
@@ -14,7 +14,7 @@ use Rattle.tree.specs.Kind.{Kind}
 use Rattle.tree.specs.Rebuild.{balance, node, rotate_left}
 use Rattle.tree.specs.Shape.{Balanced, height, item, items}
 
-pub behind-all : {K : Type 0} (key : Words → K) (order : K → K → Ordering) (k : K) (t : Tree) → All (λ x. order k x.key ≡ Greater) (items key t)
+pub behind-all : {K : Type 0} (key : Words → K) (order : K → K → Ordering) (k : K) (t : Tree) → AllByRecursion (λ x. order k x.key ≡ Greater) (items key t)
     → Behind (compared key order k) t
 behind-all key order k leaf h = tt
 behind-all key order k (fork words word tall nested left right) h =

@@ -2,7 +2,7 @@
 use Rattle.std.proofs.Common.{◌≡◌, ℕ, zero, suc, ◌+◌, ◌<◌, ◌≤◌, List, [], ◌∷◌, ◌++◌, length, Less, sym, refl, ap, ◌∙◌, subst, inl, inr, arith}
 use Rattle.std.proofs.ByRecursion.{All-append}
 use Rattle.std.proofs.lemmas.Bool.{cases_eq}
-use Rattle.std.specs.List.{AllByRecursion as All}
+use Rattle.std.specs.List.{AllByRecursion}
 use Rattle.pool.proofs.Nodes.{used-within}
 use Rattle.pool.proofs.Owners.{same-other, same_self}
 use Rattle.pool.proofs.Pools.{carries-links, holds-in}
@@ -35,7 +35,7 @@ up_one (suc m) n h k =
       | inr ne ↦ omega (arith, up_one m n h (omega (arith, k, ne)))
     ]
 
-up-length : (m : ℕ) (ns : List ℕ) → All (λ n. (0 < n) × (n ≤ m)) ns → length ns ≤ up_to m ns
+up-length : (m : ℕ) (ns : List ℕ) → AllByRecursion (λ n. (0 < n) × (n ≤ m)) ns → length ns ≤ up_to m ns
 up-length m [] a = omega arith
 up-length m (n ∷ ns) a = omega (arith, up-cons m n ns, up_one m n a.0.0 a.0.1, up-length m ns a.1)
 
@@ -69,7 +69,7 @@ module _ {K : Type 0} (𝓚 : Kind K) (mem : List Node) where
   keyed-append (n ∷ ns) (x ∷ xs) ms ys h k = (h.0, keyed-append ns xs ms ys h.1 k)
 
   -- a node whose key is before all items is none of theirs
-  none_after : (m : ℕ) (ns : List ℕ) (xs : List (Item K)) → Keyed ns xs → All (λ y. 𝓚.order (key_at m) y.key ≡ Less) xs → times m ns ≡ 0
+  none_after : (m : ℕ) (ns : List ℕ) (xs : List (Item K)) → Keyed ns xs → AllByRecursion (λ y. 𝓚.order (key_at m) y.key ≡ Less) xs → times m ns ≡ 0
   none_after m [] [] h a = refl
   none_after m [] (x ∷ xs) h a = absurd h
   none_after m (n ∷ ns) [] h a = absurd h
@@ -90,14 +90,14 @@ module _ {K : Type 0} (𝓚 : Kind K) (mem : List Node) where
       elim (cases_eq m n) [
         | inl e ↦
             let first : x.key ≡ key_at m = h.0 ∙ ap key_at (sym e) in
-            let rest = none_after m ns xs h.1 (subst (λ (k : K). All (λ y. 𝓚.order k y.key ≡ Less) xs) first asc.0) in
+            let rest = none_after m ns xs h.1 (subst (λ (k : K). AllByRecursion (λ y. 𝓚.order k y.key ≡ Less) xs) first asc.0) in
             omega (arith, rest, same_self m, ap (same m) e)
         | inr ne ↦ omega (arith, same-other m n ne, once m ns xs h.1 asc.1)
       ]
 
 module _ {K : Type 0} (𝓚 : Kind K) (p : Pool) (hs : List Held) (h : Holds p hs) where
   nodes : (n : ℕ) (t : Tree) → Carries p n t
-      → (ns : List ℕ) × Keyed 𝓚 (memory_of p) ns (items 𝓚.key t) × All (λ m. (0 < m) × (m ≤ length (memory_of p))) ns
+      → (ns : List ℕ) × Keyed 𝓚 (memory_of p) ns (items 𝓚.key t) × AllByRecursion (λ m. (0 < m) × (m ≤ length (memory_of p))) ns
   nodes n leaf c = ([], tt, tt)
   nodes n (fork key word tall nested left right) c =
       let ls = carries-links p hs n key word tall nested left right h c in

@@ -1,6 +1,6 @@
 -- The answers on the way down a tree of ascending keys are the answers of its list of items.
 use Rattle.std.proofs.Common.{◌≡◌, List, [], ◌∷◌, ◌++◌, Some, None, Option, Ordering, Less, Equal, Greater, sym, refl, ap, ◌∙◌, subst}
-use Rattle.std.specs.List.{AllByRecursion as All}
+use Rattle.std.specs.List.{AllByRecursion}
 use Rattle.tree.specs.Kind.{Kind}
 use Rattle.tree.specs.Lookup.{by_order, or_else, find, at_most, after, first, last, item_at, last_at_most, first_after, first_of, last_of}
 use Rattle.tree.specs.Shape.{Item, item, items, Ascending}
@@ -18,15 +18,15 @@ or-or (Some x) b c = refl
 module _ {K : Type 0} (𝓚 : Kind K) where
   -- ---- the item of a key
 
-  at_before : (k : K) (ys : List (Item K)) → All (Before 𝓚 k) ys → item_at 𝓚.order k ys ≡ None
+  at_before : (k : K) (ys : List (Item K)) → AllByRecursion (Before 𝓚 k) ys → item_at 𝓚.order k ys ≡ None
   at_before k [] h = refl
   at_before k (y ∷ ys) h = rw h.0 (at_before k ys h.1)
 
-  at-behind : (k : K) (xs zs : List (Item K)) → All (Behind 𝓚 k) xs → item_at 𝓚.order k (xs ++ zs) ≡ item_at 𝓚.order k zs
+  at-behind : (k : K) (xs zs : List (Item K)) → AllByRecursion (Behind 𝓚 k) xs → item_at 𝓚.order k (xs ++ zs) ≡ item_at 𝓚.order k zs
   at-behind k [] zs h = refl
   at-behind k (x ∷ xs) zs h = rw (𝓚.after x.key k h.0) (at-behind k xs zs h.1)
 
-  at_front : (k : K) (xs zs : List (Item K)) → All (Before 𝓚 k) zs → item_at 𝓚.order k (xs ++ zs) ≡ item_at 𝓚.order k xs
+  at_front : (k : K) (xs zs : List (Item K)) → AllByRecursion (Before 𝓚 k) zs → item_at 𝓚.order k (xs ++ zs) ≡ item_at 𝓚.order k xs
   at_front k [] zs h = at_before k zs h
   at_front k (x ∷ xs) zs h = rw (at_front k xs zs h)
 
@@ -51,7 +51,7 @@ module _ {K : Type 0} (𝓚 : Kind K) where
 
   -- ---- the greatest key at most k
 
-  most-before : (k : K) (ys : List (Item K)) → All (Before 𝓚 k) ys → last_at_most 𝓚.order k ys ≡ None
+  most-before : (k : K) (ys : List (Item K)) → AllByRecursion (Before 𝓚 k) ys → last_at_most 𝓚.order k ys ≡ None
   most-before k [] h = refl
   most-before k (y ∷ ys) h = rw (𝓚.after k y.key h.0, most-before k ys h.1)
 
@@ -88,7 +88,7 @@ module _ {K : Type 0} (𝓚 : Kind K) where
 
   -- ---- the least key after k
 
-  after-behind : (k : K) (xs zs : List (Item K)) → All (Behind 𝓚 k) xs → first_after 𝓚.order k (xs ++ zs) ≡ first_after 𝓚.order k zs
+  after-behind : (k : K) (xs zs : List (Item K)) → AllByRecursion (Behind 𝓚 k) xs → first_after 𝓚.order k (xs ++ zs) ≡ first_after 𝓚.order k zs
   after-behind k [] zs h = refl
   after-behind k (x ∷ xs) zs h = rw (𝓚.after x.key k h.0) (after-behind k xs zs h.1)
 

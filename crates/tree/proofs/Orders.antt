@@ -1,10 +1,10 @@
 -- What the laws of a kind give for comparisons, and what ascending says of a list around one item.
 use Rattle.std.proofs.Common.{◌≡◌, List, [], ◌∷◌, ◌++◌, Less, Equal, Greater, sym, refl, ap, ◌∙◌, subst}
-use Rattle.std.specs.List.{AllByRecursion as All}
+use Rattle.std.specs.List.{AllByRecursion}
 use Rattle.tree.specs.Kind.{Kind}
 use Rattle.tree.specs.Shape.{Item, Ascending}
 
-pub all-mapped : {A : Type 0} (P Q : A → Type 0) (xs : List A) → ((x : A) → P x → Q x) → All P xs → All Q xs
+pub all-mapped : {A : Type 0} (P Q : A → Type 0) (xs : List A) → ((x : A) → P x → Q x) → AllByRecursion P xs → AllByRecursion Q xs
 all-mapped P Q [] f h = tt
 all-mapped P Q (x ∷ xs) f h = (f x h.0, all-mapped P Q xs f h.1)
 
@@ -26,14 +26,14 @@ module _ {K : Type 0} (𝓚 : Kind K) where
   pub record Around (xs : List (Item K)) (x : Item K) (ys : List (Item K)) : Type 0 where
     pub front : Ascending 𝓚.order xs
     pub back : Ascending 𝓚.order ys
-    pub below : All (Behind x.key) xs
-    pub above : All (Before x.key) ys
+    pub below : AllByRecursion (Behind x.key) xs
+    pub above : AllByRecursion (Before x.key) ys
 
-  all-front : (P : Item K → Type 0) (xs ys : List (Item K)) → All P (xs ++ ys) → All P xs
+  all-front : (P : Item K → Type 0) (xs ys : List (Item K)) → AllByRecursion P (xs ++ ys) → AllByRecursion P xs
   all-front P [] ys h = tt
   all-front P (x ∷ xs) ys h = (h.0, all-front P xs ys h.1)
 
-  all_back : (P : Item K → Type 0) (xs ys : List (Item K)) → All P (xs ++ ys) → All P ys
+  all_back : (P : Item K → Type 0) (xs ys : List (Item K)) → AllByRecursion P (xs ++ ys) → AllByRecursion P ys
   all_back P [] ys h = h
   all_back P (x ∷ xs) ys h = all_back P xs ys h.1
 
@@ -50,14 +50,14 @@ module _ {K : Type 0} (𝓚 : Kind K) where
       }
 
   -- a key before an item is before all items behind it, and the other way round
-  pub before-all : (k : K) (x : Item K) (ys : List (Item K)) → 𝓚.order k x.key ≡ Less → All (Before x.key) ys → All (Before k) ys
+  pub before-all : (k : K) (x : Item K) (ys : List (Item K)) → 𝓚.order k x.key ≡ Less → AllByRecursion (Before x.key) ys → AllByRecursion (Before k) ys
   before-all k x ys h = all-mapped (Before x.key) (Before k) ys (λ y e. 𝓚.chained k x.key y.key h e)
 
-  pub behind-all : (k : K) (x : Item K) (xs : List (Item K)) → 𝓚.order k x.key ≡ Greater → All (Behind x.key) xs → All (Behind k) xs
+  pub behind-all : (k : K) (x : Item K) (xs : List (Item K)) → 𝓚.order k x.key ≡ Greater → AllByRecursion (Behind x.key) xs → AllByRecursion (Behind k) xs
   behind-all k x xs h = all-mapped (Behind x.key) (Behind k) xs (λ y e. 𝓚.chained y.key x.key k e (𝓚.before k x.key h))
 
-  pub equal-before : (k : K) (x : Item K) (ys : List (Item K)) → 𝓚.order k x.key ≡ Equal → All (Before x.key) ys → All (Before k) ys
-  equal-before k x ys h = subst (λ (a : K). All (Before a) ys) (sym (same_key k x.key h))
+  pub equal-before : (k : K) (x : Item K) (ys : List (Item K)) → 𝓚.order k x.key ≡ Equal → AllByRecursion (Before x.key) ys → AllByRecursion (Before k) ys
+  equal-before k x ys h = subst (λ (a : K). AllByRecursion (Before a) ys) (sym (same_key k x.key h))
 
-  pub equal-behind : (k : K) (x : Item K) (xs : List (Item K)) → 𝓚.order k x.key ≡ Equal → All (Behind x.key) xs → All (Behind k) xs
-  equal-behind k x xs h = subst (λ (a : K). All (Behind a) xs) (sym (same_key k x.key h))
+  pub equal-behind : (k : K) (x : Item K) (xs : List (Item K)) → 𝓚.order k x.key ≡ Equal → AllByRecursion (Behind x.key) xs → AllByRecursion (Behind k) xs
+  equal-behind k x xs h = subst (λ (a : K). AllByRecursion (Behind a) xs) (sym (same_key k x.key h))

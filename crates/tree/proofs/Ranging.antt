@@ -4,7 +4,7 @@ use Rattle.std.proofs.lemmas.List.Elements.{filter-append}
 use Rattle.std.proofs.ByRecursion.{All-append}
 use Rattle.std.proofs.lemmas.Int.{ints}
 use Rattle.std.specs.Ordering.{is_le, is_lt}
-use Rattle.std.specs.List.{AllByRecursion as All}
+use Rattle.std.specs.List.{AllByRecursion}
 use Rattle.tree.specs.Kind.{Kind}
 use Rattle.tree.specs.Range.{Modest, Totals, inside, sum_of, walk, within}
 use Rattle.tree.specs.Shape.{Ascending, Balanced, Item, item, items}
@@ -29,7 +29,7 @@ sum-append (x ∷ xs) ys = omega (arith, ints, sum-append xs ys)
 -- so few items, with such words, that no sum of them leaves 64 bits
 record Summable {K : Type 0} (xs : List (Item K)) : Type 0 where
   few : length xs ≤ 65535
-  modest : All Modest xs
+  modest : AllByRecursion Modest xs
 
 -- two totals have a sum
 pub record Fits (a b : Total) : Type 0 where
@@ -38,18 +38,18 @@ pub record Fits (a b : Total) : Type 0 where
   pub below : (a.sum +ℤ b.sum) ≤ℤ pos 9_000_000_000_000_000_000
 
 module _ {K : Type 0} where
-  all_split : (P : Item K → Type 0) (xs ys : List (Item K)) → All P (xs ++ ys) → All P xs × All P ys
+  all_split : (P : Item K → Type 0) (xs ys : List (Item K)) → AllByRecursion P (xs ++ ys) → AllByRecursion P xs × AllByRecursion P ys
   all_split P [] ys h = (tt, h)
   all_split P (x ∷ xs) ys h = let (a, b) = all_split P xs ys h.1 in ((h.0, a), b)
 
   summable-back : (xs ys : List (Item K)) → Summable (xs ++ ys) → Summable ys
   summable-back xs ys s = record { few = omega (arith, s.few, length-append xs ys); modest = (all_split Modest xs ys s.modest).1 }
 
-  sum-above : (xs : List (Item K)) → All Modest xs → pos 0 ≤ℤ (sum_of xs +ℤ pos (length xs * 1_000_000_000_000))
+  sum-above : (xs : List (Item K)) → AllByRecursion Modest xs → pos 0 ≤ℤ (sum_of xs +ℤ pos (length xs * 1_000_000_000_000))
   sum-above [] h = omega (arith, ints)
   sum-above (x ∷ xs) h = omega (arith, ints, sum-above xs h.1, h.0.0)
 
-  sum_below : (xs : List (Item K)) → All Modest xs → sum_of xs ≤ℤ pos (length xs * 1_000_000_000_000)
+  sum_below : (xs : List (Item K)) → AllByRecursion Modest xs → sum_of xs ≤ℤ pos (length xs * 1_000_000_000_000)
   sum_below [] h = omega (arith, ints)
   sum_below (x ∷ xs) h = omega (arith, ints, sum_below xs h.1, h.0.1)
 
@@ -80,7 +80,7 @@ if-length : {A : Type 0} (b : Bool) (xs : List A) → length (cond b xs []) ≤ 
 if-length true xs = omega arith
 if-length false xs = omega arith
 
-if-all : {A : Type 0} (P : A → Type 0) (b : Bool) (xs : List A) → All P xs → All P (cond b xs [])
+if-all : {A : Type 0} (P : A → Type 0) (b : Bool) (xs : List A) → AllByRecursion P xs → AllByRecursion P (cond b xs [])
 if-all P true xs h = h
 if-all P false xs h = tt
 
@@ -105,7 +105,7 @@ module _ {K : Type 0} (order : K → K → Ordering) (key : Words → K) (low hi
         walk-length right,
       )
 
-  walk-all : (P : Item K → Type 0) (t : Tree) → All P (items key t) → All P (walk order key low high t)
+  walk-all : (P : Item K → Type 0) (t : Tree) → AllByRecursion P (items key t) → AllByRecursion P (walk order key low high t)
   unfolding walk
   walk-all P leaf h = tt
   walk-all P (fork words word tall nested left right) h =
@@ -115,7 +115,7 @@ module _ {K : Type 0} (order : K → K → Ordering) (key : Words → K) (low hi
       All-append P _ _ (if-all P (is_lt (order low k)) _ (walk-all P left a))
       (All-append P _ _ (if-all P (inside order low high k) (x ∷ []) (b.0, tt)) (if-all P (is_lt (order k high)) _ (walk-all P right b.1)))
 
-  walk-summable : (t : Tree) → length (items key t) ≤ 65535 → All Modest (items key t) → Summable (walk order key low high t)
+  walk-summable : (t : Tree) → length (items key t) ≤ 65535 → AllByRecursion Modest (items key t) → Summable (walk order key low high t)
   walk-summable t n m = record { few = omega (arith, n, walk-length t); modest = walk-all Modest t m }
 
 -- ---- at a node
@@ -128,7 +128,7 @@ link-carries p false m l u e c = subst (λ (i : ℕ). Carries p i leaf) (sym e) 
 module _ {K : Type 0} (𝓚 : Kind K) (low high : K) where
   -- what is asked of the tree
   abbrev Asked : Tree → Type 0
-  Asked t = Balanced t × Ascending 𝓚.order (items 𝓚.key t) × All Modest (items 𝓚.key t)
+  Asked t = Balanced t × Ascending 𝓚.order (items 𝓚.key t) × AllByRecursion Modest (items 𝓚.key t)
 
   -- the node m carries a tree lower than t, as is asked
   pub record Lower (p : Pool) (t m : ℕ) : Type 0 where
@@ -239,7 +239,7 @@ module _ {K : Type 0} (𝓚 : Kind K) (low high : K) where
 
 module _ {K : Type 0} (𝓚 : Kind K) (low high : K) where
   -- nothing before the range, and nothing behind it
-  none-behind : (xs : List (Item K)) → All (Behind 𝓚 low) xs → within 𝓚.order low high xs ≡ []
+  none-behind : (xs : List (Item K)) → AllByRecursion (Behind 𝓚 low) xs → within 𝓚.order low high xs ≡ []
   none-behind [] h = refl
   none-behind (x ∷ xs) h = rw (𝓚.after x.key low h.0) (none-behind xs h.1)
 
@@ -247,19 +247,19 @@ module _ {K : Type 0} (𝓚 : Kind K) (low high : K) where
   test-false true b e = e
   test-false false b e = refl
 
-  none_before : (ys : List (Item K)) → All (Before 𝓚 high) ys → within 𝓚.order low high ys ≡ []
+  none_before : (ys : List (Item K)) → AllByRecursion (Before 𝓚 high) ys → within 𝓚.order low high ys ≡ []
   none_before [] h = refl
   none_before (y ∷ ys) h =
       let e : inside 𝓚.order low high y.key ≡ false = test-false (is_le (𝓚.order low y.key)) _ (ap is_le (𝓚.after high y.key h.0)) in
       rw e (none_before ys h.1)
 
-  front-part : (x : Item K) (xs ws : List (Item K)) → All (Behind 𝓚 x.key) xs → ws ≡ within 𝓚.order low high xs
+  front-part : (x : Item K) (xs ws : List (Item K)) → AllByRecursion (Behind 𝓚 x.key) xs → ws ≡ within 𝓚.order low high xs
       → (o : Ordering) → 𝓚.order low x.key ≡ o → cond (is_lt o) ws [] ≡ within 𝓚.order low high xs
   front-part x xs ws b p Less e = p
   front-part x xs ws b p Equal e = sym (none-behind xs (equal-behind 𝓚 low x xs e b))
   front-part x xs ws b p Greater e = sym (none-behind xs (behind-all 𝓚 low x xs e b))
 
-  back-part : (x : Item K) (ys ws : List (Item K)) → All (Before 𝓚 x.key) ys → ws ≡ within 𝓚.order low high ys
+  back-part : (x : Item K) (ys ws : List (Item K)) → AllByRecursion (Before 𝓚 x.key) ys → ws ≡ within 𝓚.order low high ys
       → (o : Ordering) → 𝓚.order x.key high ≡ o → cond (is_lt o) ws [] ≡ within 𝓚.order low high ys
   back-part x ys ws b p Less e = p
   back-part x ys ws b p Equal e =

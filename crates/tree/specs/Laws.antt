@@ -1,7 +1,7 @@
 -- The laws of the tree for a kind of key: what it holds after an insert and after a remove, its order, and its balance.
 use Rattle.std.specs.Prelude.{◌≡◌, ℕ, ◌+◌, ◌<◌, ◌≤◌, List, [], ◌∷◌, ◌++◌, ℤ, ◌≢◌}
 use Rattle.std.specs.declared.cmp.Ordering.TheVariants.{Equal, Greater}
-use Rattle.std.specs.List.{AllByRecursion as All}
+use Rattle.std.specs.List.{AllByRecursion}
 use Rattle.pool.specs.Tree.{Tree, fork}
 use Rattle.pool.specs.declared.node.Words.{Words}
 use Rattle.tree.specs.Append.{Behind, LeansRight}
@@ -36,7 +36,7 @@ pub record ContentsLaws {K : Type 0} (𝓚 : Kind K) : Type 0 where
   pub inserted : (k : K) (word : ℤ) (nested t : Tree) → InOrder 𝓚 t → listed 𝓚 (with_key 𝓚 k word nested t) ≡ put_in 𝓚.order k word nested (listed 𝓚 t)
   pub removed : (k : K) (t : Tree) → InOrder 𝓚 t → listed 𝓚 (without_key 𝓚 k t) ≡ without 𝓚.order k (listed 𝓚 t)
   -- a key that is not there leaves the tree itself
-  pub absent : (k : K) (t : Tree) → Balanced t → All (λ x. 𝓚.order k x.key ≢ Equal) (listed 𝓚 t) → without_key 𝓚 k t ≡ t
+  pub absent : (k : K) (t : Tree) → Balanced t → AllByRecursion (λ x. 𝓚.order k x.key ≢ Equal) (listed 𝓚 t) → without_key 𝓚 k t ≡ t
 
 pub record OrderLaws {K : Type 0} (𝓚 : Kind K) : Type 0 where
   pub put : (k : K) (word : ℤ) (nested : Tree) (xs : List (Item K)) → Ascending 𝓚.order xs → Ascending 𝓚.order (put_in 𝓚.order k word nested xs)
@@ -52,8 +52,8 @@ pub record BalanceLaws {K : Type 0} (𝓚 : Kind K) : Type 0 where
 
 pub record AppendLaws {K : Type 0} (𝓚 : Kind K) : Type 0 where
   -- a key after all keys goes down the right side, and behind all items
-  pub behind : (k : K) (t : Tree) → All (λ x. 𝓚.order k x.key ≡ Greater) (listed 𝓚 t) → Behind (compared 𝓚.key 𝓚.order k) t
-  pub last : (k : K) (word : ℤ) (nested t : Tree) → All (λ x. 𝓚.order k x.key ≡ Greater) (listed 𝓚 t)
+  pub behind : (k : K) (t : Tree) → AllByRecursion (λ x. 𝓚.order k x.key ≡ Greater) (listed 𝓚 t) → Behind (compared 𝓚.key 𝓚.order k) t
+  pub last : (k : K) (word : ℤ) (nested t : Tree) → AllByRecursion (λ x. 𝓚.order k x.key ≡ Greater) (listed 𝓚 t)
       → listed 𝓚 (with_key 𝓚 k word nested t) ≡ listed 𝓚 t ++ item k word nested ∷ []
   -- where the right side has become too high, it leans to the right: one rotation suffices
   pub leans : (k : K) (word : ℤ) (nested : Tree) (words : Words) (held : ℤ) (tall : ℕ) (inner left right : Tree)

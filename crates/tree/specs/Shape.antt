@@ -2,7 +2,7 @@
 use Rattle.std.specs.Prelude.{◌≡◌, ℕ, suc, ◌+◌, ◌≤◌, max, List, [], ◌∷◌, ◌++◌, ℤ}
 use Rattle.std.specs.declared.cmp.Ordering.TheVariants.{Less}
 use Rattle.std.specs.declared.cmp.Ordering.{Ordering}
-use Rattle.std.specs.List.{AllByRecursion as All}
+use Rattle.std.specs.List.{AllByRecursion}
 use Rattle.pool.specs.Tree.{Tree, fork, leaf}
 use Rattle.pool.specs.declared.node.Words.{Words}
 
@@ -28,7 +28,7 @@ items key (fork words word tall nested left right) = items key left ++ item (key
 -- every key is before all keys behind it
 abbrev pub Ascending : {K : Type 0} → (K → K → Ordering) → List (Item K) → Type 0
 Ascending order [] = Unit {0}
-Ascending order (x ∷ xs) = All (λ y. order x.key y.key ≡ Less) xs × Ascending order xs
+Ascending order (x ∷ xs) = AllByRecursion (λ y. order x.key y.key ≡ Less) xs × Ascending order xs
 
 -- the stored height is the height, and the heights of the two sides differ by at most 1, at every node
 abbrev pub Balanced : Tree → Type 0

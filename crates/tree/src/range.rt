@@ -2,7 +2,7 @@
 
 ghost use Rattle.std.specs.Prelude.{◌≡◌, ◌+◌, ◌^◌, ◌<◌, List, [], ◌∷◌, pos, negsuc, ◌+ℤ◌, ◌≤ℤ◌, if◌then◌else◌};
 ghost use Rattle.std.specs.Ordering.{is_lt};
-ghost use Rattle.std.specs.List.{AllByRecursion as All};
+ghost use Rattle.std.specs.List.{AllByRecursion};
 ghost use Rattle.pool.specs.Held.{Carries, Held, Holds};
 ghost use Rattle.pool.specs.Tree.{Tree};
 ghost use Rattle.tree.specs.Range.{Modest, Totals, inside, walk, within};
@@ -90,7 +90,7 @@ fn right_to<K: Key>(node: Node, high: K) -> u16
 /// so that the sum is exact.
 pub fn total_between<K: Key>(pool: &Pool<'_>, root: u16, low: K, high: K) -> Total
     requires held { (hs : List Held) × Holds pool.now hs }
-    requires carried { (t : Tree) × Carries pool.now root t × (Balanced t × Ascending K.Key.order (items K.Key.key t) × All Modest (items K.Key.key t)) }
+    requires carried { (t : Tree) × Carries pool.now root t × (Balanced t × Ascending K.Key.order (items K.Key.key t) × AllByRecursion Modest (items K.Key.key t)) }
     ensures answered { (t : Tree) → Carries pool.now root t → Totals (walk K.Key.order K.Key.key low high t) result }
     ensures listed { (t : Tree) → Carries pool.now root t → Ascending K.Key.order (items K.Key.key t) → Totals (within K.Key.order low high (items K.Key.key t)) result }
 {
