@@ -8,17 +8,10 @@ use crate::refusal::Refusal;
 /// The serial of a spent handle: no line ever has it.
 pub const SPENT: u32 = 4294967295;
 
-/// A place of the table and a serial, as plain numbers.
-#[derive(Clone, Copy)]
-pub struct Handle {
-    pub place: u32,
-    pub serial: u32,
-}
-
 /// A line at rest.
 pub struct Line {
-    pub(crate) place: u32,
-    pub(crate) serial: u32,
+    place: u32,
+    serial: u32,
 }
 
 impl Drop for Line {
@@ -65,8 +58,8 @@ impl Line {
 
 /// A line in a sitting.
 pub struct Sitting {
-    pub(crate) place: u32,
-    pub(crate) serial: u32,
+    place: u32,
+    serial: u32,
 }
 
 impl Drop for Sitting {

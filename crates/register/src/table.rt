@@ -1,10 +1,7 @@
 //! The table of lines: 64 records, changed one at a time, and only here.
 
 ghost use Rattle.std.specs.Prelude.{◌≡◌, ◌<◌, length, IfSome, slice_index_or, slice_set};
-ghost use Rattle.register.specs.declared.table.State.TheVariants.{Sitting as sitting, Stowed as stowed};
-ghost use Rattle.register.specs.Tables.{all_free, in_state, line_of, live, lowest, resting_record, same_state, stow_refusal, vacant};
-
-use crate::refusal::Refusal;
+ghost use Rattle.register.specs.Tables.{same_state, vacant, all_free, lowest, has, live};
 
 /// What a line is doing.
 #[derive(Clone, Copy, PartialEq, Eq)]
@@ -13,8 +10,8 @@ pub enum State {
     Free,
     /// A caller holds the line's handle.
     AtRest,
-    /// A caller holds the handle of a sitting on the line: its recorded instant, and the root of its working sheet.
-    Sitting { recorded: u32, sheet: u16 },
+    /// A caller holds the handle of a sitting on the line.
+    Sitting,
     /// The line lies on this shelf.
     Stowed(u8),
 }
@@ -27,63 +24,11 @@ impl State {
     }
 }
 
-/// One place of the table: its line's serial, the root of its tree of stages, and what the line is doing.
+/// One place of the table: its line's serial, and what the line is doing.
 #[derive(Clone, Copy)]
 pub struct Record {
     pub serial: u32,
-    pub root: u16,
     pub state: State,
-}
-
-impl Record {
-    /// The record of a place that has no line.
-    pub fn vacant() -> Record
-        ensures { result ≡ vacant }
-    {
-        Record {
-            serial: 0,
-            root: 0,
-            state: State::Free,
-        }
-    }
-
-    /// The record of a line at rest.
-    pub fn resting(serial: u32, root: u16) -> Record
-        ensures { result ≡ resting_record serial root }
-    {
-        Record {
-            serial,
-            root,
-            state: State::AtRest,
-        }
-    }
-
-    /// The record of the same line at rest.
-    pub fn rested(self) -> Record
-        ensures { result ≡ resting_record self.serial self.root }
-    {
-        Record::resting(self.serial, self.root)
-    }
-
-    /// The record of the same line on a shelf.
-    pub fn stowed(self, letter: u8) -> Record
-        ensures { result ≡ record { serial = self.serial; root = self.root; state = stowed letter } }
-    {
-        Record {
-            state: State::Stowed(letter),
-            ..self
-        }
-    }
-
-    /// The record of the same line in a sitting.
-    pub fn seated(self, recorded: u32, sheet: u16) -> Record
-        ensures { result ≡ record { serial = self.serial; root = self.root; state = sitting recorded sheet } }
-    {
-        Record {
-            state: State::Sitting { recorded, sheet },
-            ..self
-        }
-    }
 }
 
 /// The 64 places.
@@ -99,13 +44,16 @@ impl Table {
         ensures { result.lines ≡ all_free }
     {
         Table {
-            lines: [Record::vacant(); 64],
+            lines: [Record {
+                serial: 0,
+                state: State::Free,
+            }; 64],
         }
     }
 
     /// The lowest place in this state.
     pub fn find(&self, state: State) -> Option<u32>
-        ensures place { result ≡ lowest (in_state state) self.now.lines }
+        ensures place { result ≡ lowest state self.now.lines }
         ensures within { IfSome result (λ p. p < 64) }
     {
         for (place, record) in self.lines.iter().enumerate() {
@@ -116,16 +64,14 @@ impl Table {
         None
     }
 
-    /// The record of the line with this place and serial, or a vacant one where no line has them.
-    pub fn line(&self, place: u32, serial: u32) -> Record
-        ensures { result ≡ line_of self.now.lines place serial }
+    /// Whether a line has this place and serial, and is in this state.
+    pub fn has(&self, place: u32, serial: u32, state: State) -> bool
+        ensures { result ≡ has self.now.lines place serial state }
     {
-        let record = self.at(place);
-        if record.serial == serial {
-            record
-        } else {
-            Record::vacant()
-        }
+        let Some(record) = self.lines.get(place as usize) else {
+            return false;
+        };
+        record.serial == serial && record.state.is(state)
     }
 
     /// The number of live lines.
@@ -141,41 +87,19 @@ impl Table {
         count
     }
 
-    /// The record at this place; past the last place it is vacant.
+    /// The record at this place.
     pub fn at(&self, place: u32) -> Record
+        requires { place < 64 }
         ensures { result ≡ slice_index_or self.now.lines place vacant }
     {
-        let i = place as usize;
-        if i < self.lines.len() {
-            self.lines[i]
-        } else {
-            Record::vacant()
-        }
+        self.lines[place as usize]
     }
 
-    /// Changes the record at this place; past the last place there is none to change.
+    /// Changes the record at this place.
     pub fn put(&mut self, place: u32, line: Record)
+        requires { place < 64 }
         ensures { self.new.lines ≡ slice_set self.old.lines place line }
     {
-        let i = place as usize;
-        if i < self.lines.len() {
-            self.lines[i] = line;
-        }
-    }
-
-    /// Why a line in this state cannot be stowed on this shelf.
-    pub fn stow_refusal(&self, state: State, letter: u8) -> Option<Refusal>
-        ensures { result ≡ stow_refusal self.now.lines state letter }
-    {
-        if !state.is(State::AtRest) {
-            return Some(Refusal::NoSuchLine);
-        }
-        if !letter.is_ascii_uppercase() {
-            return Some(Refusal::NotAShelf);
-        }
-        if self.find(State::Stowed(letter)).is_some() {
-            return Some(Refusal::ShelfTaken);
-        }
-        None
+        self.lines[place as usize] = line;
     }
 }

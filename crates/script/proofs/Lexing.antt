@@ -82,7 +82,7 @@ fields-start script cut start end clamped next cut-is end_is start_is =
     ∙ ap (λ text. fields_of (drop next text)) cut-is
     ∙ ap fields_of (line-clamped script start end clamped next end_is start_is)
 
-module _ (before after : Lexer) (end : ℕ) (script-kept : after.script ≡ before.script) (next_is : after.next ≡ end + 1) (inside : before.next ≤ length before.script.now) (reached : before.next ≤ end) (within : end ≤ length before.script.now) (no-tab : (k : ℕ) → before.next ≤ k → k < end → get_or before.script.now k 0 ≡ 9 → ⊥) (tab : end < length before.script.now → get_or before.script.now end 0 ≡ 9) where
+module _ (before after : Lexer) (end : ℕ) (script-kept : after.script ≡ before.script) (next-is : after.next ≡ end + 1) (inside : before.next ≤ length before.script.now) (reached : before.next ≤ end) (within : end ≤ length before.script.now) (no-tab : (k : ℕ) → before.next ≤ k → k < end → get_or before.script.now k 0 ≡ 9 → ⊥) (tab : end < length before.script.now → get_or before.script.now end 0 ≡ 9) where
   gives-fields : left before ≡ take (end - before.next) (drop before.next before.script.now) ∷ left after
   gives-fields =
       let script-same : after.script.now ≡ before.script.now = ap (λ r. r.now) script-kept in
@@ -91,7 +91,7 @@ module _ (before after : Lexer) (end : ℕ) (script-kept : after.script ≡ befo
             fields-inside before.script.now before.next inside
             ∙ field_at before.script.now before.next end reached more no-tab (tab more)
             ∙ ap (λ fields. take (end - before.next) (drop before.next before.script.now) ∷ fields)
-            (sym (fields-inside after.script.now after.next (omega (arith, ap length script-same)) ∙ (λ i. fields_of (drop (next_is i) (script-same i)))))
+            (sym (fields-inside after.script.now after.next (omega (arith, ap length script-same)) ∙ (λ i. fields_of (drop (next-is i) (script-same i)))))
         | inr last ↦
             fields-inside before.script.now before.next inside
             ∙ field-last before.script.now before.next end reached (omega arith) no-tab

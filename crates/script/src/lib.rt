@@ -6,8 +6,6 @@ mod command;
 mod lexer;
 mod lines;
 mod runner;
-mod shelves;
-mod sitting;
 
 pub use command::{Command, read_command};
 pub use lexer::{Field, Lexer, Part};

@@ -1,25 +1,19 @@
 //! Runs a script in a register of its own.
 
-ghost use Rattle.std.specs.Prelude.{◌≡◌, ℕ, ◌<◌, ◌≤◌, min, List, length, drop, IfOk, Some, None, MatchResult};
-ghost use Rattle.register.specs.Registers.{ShownBy};
-ghost use Rattle.register.specs.Shown.{Shown};
+ghost use Rattle.std.specs.Prelude.{◌≡◌, ℕ, ◌<◌, ◌≤◌, min, true, List, length, drop, IfOk, MatchResult};
+ghost use Rattle.register.specs.Lines.{at_rest, retired};
+ghost use Rattle.register.specs.Shown.{Shown, shown, newly_made};
 ghost use Rattle.script.specs.Fields.{left};
-ghost use Rattle.report.specs.Report.{lender, capacity, used, LineAdded, LineRefused};
-ghost use Rattle.script.specs.Commands.{requested};
-ghost use Rattle.script.specs.Reports.{answer_line, refusals};
-ghost use Rattle.script.specs.Runs.{Answered, Carried, Ended, Standing, beginning, forward};
-ghost use Rattle.script.specs.Standings.{Leads, Ready};
-ghost use Rattle.script.specs.Scripts.{RanLine, RanLines, Finished, TooLong, Reported};
+ghost use Rattle.report.specs.Report.{lender, capacity, used, text, LineAdded, LineRefused};
+ghost use Rattle.script.specs.Runs.{opened_on, retired_on, answered, cleared};
+ghost use Rattle.script.specs.Scripts.{refusals, answer_line, report_of, RanLines, Finished, TooLong, Reported};
 
 use crate::answer::{Answer, answer_to, counted};
 use crate::command::{Command, read_command};
 use crate::lexer::Lexer;
 use crate::lines::line_end;
-use crate::shelves::{as_of_on, branch_on, clear, open_on, retire_on, total_on};
-use crate::sitting::{OpenSitting, abandon_sitting, after_commit, begin_on, commit_sitting};
-use kinds::Name;
 use pool::Node;
-use register::{Refusal, Register};
+use register::{Line, Refusal, Refused, Register};
 use report::{Full, Piece, Report};
 
 /// The longest script that is run, in bytes.
@@ -42,180 +36,119 @@ struct Counts {
     refused: u32,
 }
 
-/// Carries out a command outside a sitting.
-fn answer_outside(
-    register: &mut Register<'_, Name>,
-    command: Command<'_>,
-) -> (Answer, Option<OpenSitting>)
-    requires { Ready register.old None }
-    ensures { Leads register.old None register.new result.1 (λ s s'. Carried s (requested command.entry) result.0 s') }
+/// Retires a line that is at rest.
+fn end_line(register: &mut Register<'_>, line: Line)
+    requires { at_rest (shown register.old) line ≡ true }
+    ensures { shown register.new ≡ (retired (shown register.old) line).1 }
 {
-    match command {
-        Command::Open { shelf } => (answer_to(open_on(register, shelf)), None),
-        Command::Branch { from, to } => (answer_to(branch_on(register, from, to)), None),
-        Command::Begin { shelf, recorded } => match begin_on(register, shelf, recorded) {
-            Ok(seat) => (Answer::Accepted, Some(seat)),
-            Err(why) => (Answer::Declined(why), None),
-        },
-        Command::AsOf {
-            shelf,
-            recorded,
-            name,
-            measured,
-        } => (as_of_on(register, shelf, recorded, name, measured), None),
-        Command::Total {
-            shelf,
-            recorded,
-            name,
-            from,
-            to,
-        } => (total_on(register, shelf, recorded, name, from, to), None),
-        Command::Retire { shelf } => (answer_to(retire_on(register, shelf)), None),
-        Command::Tally => (Answer::Counted(register.tally()), None),
-        _ => (Answer::Declined(Refusal::OutOfPlace), None),
+    match register.retire(line) {
+        Ok(()) => {}
+        Err(_refused) => unreachable(),
     }
 }
 
-/// Carries out a command inside the open sitting.
-fn answer_inside(
-    register: &mut Register<'_, Name>,
-    seat: OpenSitting,
-    command: Command<'_>,
-) -> (Answer, Option<OpenSitting>)
-    requires { Ready register.old (Some seat) }
-    ensures { Leads register.old (Some seat) register.new result.1 (λ s s'. Carried s (requested command.entry) result.0 s') }
+/// Opens a line and stows it on the shelf. A line whose stowing is refused is retired.
+fn open_on(register: &mut Register<'_>, shelf: u8) -> Result<(), Refusal>
+    ensures answer { result ≡ (opened_on (shown register.old) shelf).0 }
+    ensures after { shown register.new ≡ (opened_on (shown register.old) shelf).1 }
 {
-    match command {
-        Command::Record {
-            name,
-            measured,
-            reading,
-        } => {
-            let entry = register.record(&seat.sitting, name, measured, reading);
-            (answer_to(entry), Some(seat))
+    let line = match register.open_line() {
+        Ok(line) => line,
+        Err(why) => return Err(why),
+    };
+    match register.stow(line, shelf) {
+        Ok(()) => Ok(()),
+        Err(refused) => {
+            let Refused { handle, why } = refused;
+            end_line(register, handle);
+            Err(why)
         }
-        Command::Correct {
-            name,
-            measured,
-            reading,
-        } => {
-            let entry = register.correct(&seat.sitting, name, measured, reading);
-            (answer_to(entry), Some(seat))
-        }
-        Command::Withdraw { name, measured } => {
-            let entry = register.withdraw(&seat.sitting, name, measured);
-            (answer_to(entry), Some(seat))
-        }
-        Command::Commit => after_commit(commit_sitting(register, seat)),
-        Command::Abandon => {
-            abandon_sitting(register, seat);
-            (Answer::Accepted, None)
-        }
-        _ => (Answer::Declined(Refusal::OutOfPlace), Some(seat)),
     }
+}
+
+/// Retires the line of the shelf.
+fn retire_on(register: &mut Register<'_>, shelf: u8) -> Result<(), Refusal>
+    ensures answer { result ≡ (retired_on (shown register.old) shelf).0 }
+    ensures after { shown register.new ≡ (retired_on (shown register.old) shelf).1 }
+{
+    let line = match register.fetch(shelf) {
+        Ok(line) => line,
+        Err(why) => return Err(why),
+    };
+    end_line(register, line);
+    Ok(())
 }
 
 /// Carries out the command of a line.
-fn answer(
-    register: &mut Register<'_, Name>,
-    seat: Option<OpenSitting>,
-    fields: Lexer<'_>,
-) -> (Answer, Option<OpenSitting>)
-    requires { Ready register.old seat }
-    ensures { Leads register.old seat register.new result.1 (λ s s'. Answered s (left fields.entry) result.0 s') }
+fn answer(register: &mut Register<'_>, fields: Lexer<'_>) -> Answer
+    ensures answer { result ≡ (answered (shown register.old) (left fields.entry)).0 }
+    ensures after { shown register.new ≡ (answered (shown register.old) (left fields.entry)).1 }
 {
     match read_command(fields) {
-        None => (Answer::Declined(Refusal::Unreadable), seat),
-        Some(command) => match seat {
-            None => answer_outside(register, command),
-            Some(seat) => answer_inside(register, seat, command),
-        },
+        None => Answer::Declined(Refusal::Unreadable),
+        Some(Command::Open { shelf }) => answer_to(open_on(register, shelf)),
+        Some(Command::Retire { shelf }) => answer_to(retire_on(register, shelf)),
+        Some(Command::Tally) => Answer::Counted(register.tally()),
     }
 }
 
-/// Writes the report line of an answer. Gives the number of refusals, 0 or 1.
-fn report_answer(report: &mut Report<'_>, number: u32, answer: Answer) -> Result<u32, Full>
+/// Retires the lines of all shelves.
+fn clear(register: &mut Register<'_>)
+    ensures { shown register.new ≡ cleared 26 (shown register.old) }
+{
+    for shelf in 0..26 {
+        let _ = retire_on(register, b'A' + shelf);
+    }
+}
+
+/// Carries out one line that is not empty, and reports it. Gives the number of refusals, 0 or 1.
+fn run_line(
+    register: &mut Register<'_>,
+    report: &mut Report<'_>,
+    number: u32,
+    fields: Lexer<'_>,
+) -> Result<u32, Full>
     ensures lent { lender report.new ≡ lender report.old }
     ensures kept { capacity report.new ≡ capacity report.old }
-    ensures refused { IfOk result (λ count. count ≡ refusals answer) }
-    ensures lined { MatchResult result (λ _. LineAdded report.old (answer_line number answer) report.new) (λ _. LineRefused report.old (answer_line number answer) report.new) }
+    ensures after { shown register.new ≡ (answered (shown register.old) (left fields.entry)).1 }
+    ensures refused { IfOk result (λ n. n ≡ refusals (shown register.old) (left fields.entry)) }
+    ensures lined { MatchResult result (λ _. LineAdded report.old (answer_line number (shown register.old) (left fields.entry)) report.new) (λ _. LineRefused report.old (answer_line number (shown register.old) (left fields.entry)) report.new) }
 {
+    let answer = answer(register, fields);
     answer.write(number, report)?;
     if answer.is_declined() { Ok(1) } else { Ok(0) }
 }
 
-/// Carries out one line that is not empty, and reports it. Gives the number of refusals, 0 or 1, and the sitting that
-/// is open then.
-fn run_line(
-    register: &mut Register<'_, Name>,
-    seat: Option<OpenSitting>,
-    report: &mut Report<'_>,
-    number: u32,
-    fields: Lexer<'_>,
-) -> (Result<u32, Full>, Option<OpenSitting>)
-    requires { Ready register.old seat }
-    ensures lent { lender report.new ≡ lender report.old }
-    ensures kept { capacity report.new ≡ capacity report.old }
-    ensures one { IfOk result.0 (λ count. count ≤ 1) }
-    ensures ran { Leads register.old seat register.new result.1 (λ s s'. RanLine Answered number (left fields.entry) result.0 s s' report.old report.new) }
-{
-    let (answer, seat) = answer(register, seat, fields);
-    (report_answer(report, number, answer), seat)
-}
-
-/// Carries out the lines of the script and reports each, up to the first whose report line does not fit. Gives the
-/// sitting that is open then.
+/// Carries out the lines of the script and reports each, up to the first whose report line does not fit.
 fn run_lines(
-    register: &mut Register<'_, Name>,
+    register: &mut Register<'_>,
     report: &mut Report<'_>,
     script: &[u8],
-) -> (Result<Counts, Full>, Option<OpenSitting>)
+) -> Result<Counts, Full>
     requires short { length script.now ≤ 32768 }
-    requires ready { Ready register.old None }
     ensures lent { lender report.new ≡ lender report.old }
     ensures kept { capacity report.new ≡ capacity report.old }
-    ensures ran { Leads register.old None register.new result.1 (λ s s'. used report.old ≡ 0 → RanLines Answered Ended s script.now result.0 s' report.new) }
+    ensures ran { used report.old ≡ 0 → RanLines (report_of (shown register.old) script.now) result (shown register.new) report.new }
 {
     let mut counts = Counts {
         lines: 0,
         refused: 0,
     };
-    let mut seat = None;
     let mut start = 0;
     while start < script.len() {
         let end = line_end(script, start);
         counts.lines += 1;
         if start < end {
-            let fields = Lexer::new(script, start, end);
-            let (ran, next) = run_line(register, seat, report, counts.lines, fields);
-            seat = next;
-            match ran {
-                Ok(refused) => counts.refused += refused,
-                Err(full) => return (Err(full), seat),
-            }
+            counts.refused += run_line(
+                register,
+                report,
+                counts.lines,
+                Lexer::new(script, start, end),
+            )?;
         }
         start = end + 1;
     }
-    (Ok(counts), seat)
-}
-
-/// Abandons an open sitting, and retires the lines of all shelves.
-fn give_everything_up(register: &mut Register<'_, Name>, seat: Option<OpenSitting>)
-    requires { Ready register.old seat }
-    ensures { Leads register.old seat register.new None (λ s s'. Ended s s'.shown.used) }
-{
-    match seat {
-        None => {}
-        Some(seat) => abandon_sitting(register, seat),
-    }
-    clear(register);
-}
-
-/// The nodes in use.
-fn nodes_in_use(register: &Register<'_, Name>) -> u32
-    ensures { (s : Shown) → ShownBy forward register.now s → result ≡ s.used }
-{
-    register.tally().in_use
+    Ok(counts)
 }
 
 /// Writes the end line where all lines were reported, and gives the report's length.
@@ -223,7 +156,7 @@ fn finish(report: &mut Report<'_>, ran: Result<Counts, Full>, in_use: u32) -> Re
     ensures lent { lender report.new ≡ lender report.old }
     ensures kept { capacity report.new ≡ capacity report.old }
     ensures within { MatchResult result (λ n. n ≤ capacity report.old) (λ stopped. stopped.length ≤ capacity report.old) }
-    ensures ended { (start s : Standing) (script : List ℕ) → Ended s in_use → RanLines Answered Ended start script ran s report.old → Finished Answered Ended start script result report.new }
+    ensures ended { (whole : List (List ℕ)) (s : Shown) → in_use ≡ (cleared 26 s).used → RanLines whole ran s report.old → Finished whole result report.new }
 {
     let Ok(counts) = ran else {
         return Err(Stopped {
@@ -255,13 +188,13 @@ fn run_script(
 ) -> Result<usize, Stopped>
     requires short { length script.now ≤ 32768 }
     ensures within { MatchResult result (λ n. n ≤ length out.old) (λ stopped. stopped.length ≤ length out.old) }
-    ensures ran { Reported Answered Ended (beginning (min (length nodes.old) 65535) first_serial) script.now result out.old out.new }
+    ensures ran { Reported (report_of (newly_made (min (length nodes.old) 65535) first_serial) script.now) result out.old out.new }
 {
-    let mut register: Register<'_, Name> = Register::new(nodes, first_serial);
+    let mut register = Register::new(nodes, first_serial);
     let mut report = Report::new(out);
-    let (ran, seat) = run_lines(&mut register, &mut report, script);
-    give_everything_up(&mut register, seat);
-    finish(&mut report, ran, nodes_in_use(&register))
+    let ran = run_lines(&mut register, &mut report, script);
+    clear(&mut register);
+    finish(&mut report, ran, register.tally().in_use)
 }
 
 /// Runs a script in a register made over `nodes`, and writes its report into `out`. Gives the report's length.
@@ -275,7 +208,7 @@ pub fn run(
     ensures within { MatchResult result (λ n. n ≤ length out.old) (λ stopped. stopped.length ≤ length out.old) }
     ensures beyond { drop 65535 nodes.new ≡ drop 65535 nodes.old }
     ensures long { 32768 < length script.now → TooLong result out.old out.new × (nodes.new ≡ nodes.old) }
-    ensures ran { length script.now ≤ 32768 → Reported Answered Ended (beginning (min (length nodes.old) 65535) first_serial) script.now result out.old out.new }
+    ensures ran { length script.now ≤ 32768 → Reported (report_of (newly_made (min (length nodes.old) 65535) first_serial) script.now) result out.old out.new }
 {
     if script.len() > LONGEST_SCRIPT {
         return Err(Stopped {
