@@ -20,7 +20,7 @@ is_too_high-requires c =
 
 pub rotate_right-requires : goal.rotate_right-requires
 rotate_right-requires c =
-    let test : c.stored_height-behind.result + 1 < c.stored_height-before.result = ltb-true _ _ (sym c.is_too_high.ensures ∙ c.if-is_too_high.true) in
+    let test : c.stored_height-behind.result + 1 < c.stored_height-before.result = omega (arith, ltb-true _ _ (sym c.is_too_high.ensures ∙ c.if-is_too_high.true)) in
     let b = c.requires.ready in
     let carries = left-carries _ c.args.root _ c.args.right b.nested b.l b.r b.others b.holds in
     let high = c.stored_height-before.ensures b.l carries in
@@ -33,7 +33,7 @@ is_too_high-requires-else-is_too_high c =
 
 pub rotate_left-requires : goal.rotate_left-requires
 rotate_left-requires c =
-    let test : c.stored_height-before.result + 1 < c.stored_height-behind.result = ltb-true _ _ (sym c.is_too_high-else-is_too_high.ensures ∙ c.if-is_too_high-2.true) in
+    let test : c.stored_height-before.result + 1 < c.stored_height-behind.result = omega (arith, ltb-true _ _ (sym c.is_too_high-else-is_too_high.ensures ∙ c.if-is_too_high-2.true)) in
     let b = c.requires.ready in
     let carries = right-carries _ c.args.root c.args.left _ b.nested b.l b.r b.others b.holds in
     let high = c.stored_height-behind.ensures b.r carries in
@@ -57,7 +57,7 @@ build-requires c =
 
 pub returns-then-is_too_high : goal.returns-then-is_too_high
 returns-then-is_too_high c =
-    let test : c.stored_height-behind.result + 1 < c.stored_height-before.result = ltb-true _ _ (sym c.is_too_high.ensures ∙ c.if-is_too_high.true) in
+    let test : c.stored_height-behind.result + 1 < c.stored_height-before.result = omega (arith, ltb-true _ _ (sym c.is_too_high.ensures ∙ c.if-is_too_high.true)) in
     let m = c.stored_height-before.ensures in
     let n = c.stored_height-behind.ensures in
     record {
@@ -77,8 +77,8 @@ returns-then-is_too_high c =
 
 pub returns-then-is_too_high-2 : goal.returns-then-is_too_high-2
 returns-then-is_too_high-2 c =
-    let low : c.stored_height-before.result ≤ c.stored_height-behind.result + 1 = ltb-false _ _ (sym c.is_too_high.ensures ∙ c.if-is_too_high.false) in
-    let test : c.stored_height-before.result + 1 < c.stored_height-behind.result = ltb-true _ _ (sym c.is_too_high-else-is_too_high.ensures ∙ c.if-is_too_high-2.true) in
+    let low : c.stored_height-before.result ≤ c.stored_height-behind.result + 1 = omega (arith, ltb-false _ _ (sym c.is_too_high.ensures ∙ c.if-is_too_high.false)) in
+    let test : c.stored_height-before.result + 1 < c.stored_height-behind.result = omega (arith, ltb-true _ _ (sym c.is_too_high-else-is_too_high.ensures ∙ c.if-is_too_high-2.true)) in
     let m = c.stored_height-before.ensures in
     let n = c.stored_height-behind.ensures in
     record {
@@ -95,8 +95,8 @@ returns-then-is_too_high-2 c =
 
 pub returns-else-is_too_high-2 : goal.returns-else-is_too_high-2
 returns-else-is_too_high-2 c =
-    let low : c.stored_height-before.result ≤ c.stored_height-behind.result + 1 = ltb-false _ _ (sym c.is_too_high.ensures ∙ c.if-is_too_high.false) in
-    let high : c.stored_height-behind.result ≤ c.stored_height-before.result + 1 = ltb-false _ _ (sym c.is_too_high-else-is_too_high.ensures ∙ c.if-is_too_high-2.false) in
+    let low : c.stored_height-before.result ≤ c.stored_height-behind.result + 1 = omega (arith, ltb-false _ _ (sym c.is_too_high.ensures ∙ c.if-is_too_high.false)) in
+    let high : c.stored_height-behind.result ≤ c.stored_height-before.result + 1 = omega (arith, ltb-false _ _ (sym c.is_too_high-else-is_too_high.ensures ∙ c.if-is_too_high-2.false)) in
     let m = c.stored_height-before.ensures in
     let n = c.stored_height-behind.ensures in
     record {
