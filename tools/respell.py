@@ -1,11 +1,11 @@
 #!/usr/bin/env python3
 """Brings this repository's own names in clauses, definitions and lemmas to snake case.
 
-usage: tools/respell.py        at the top of the repository; files are rewritten in place
+usage: python3 tools/respell.py        at the top of the repository, once, right after the kit's port script; files are rewritten in place
 
 A part of a name that begins with a small letter and has a capital inside, as in firstOf or atMost-items, goes to snake case.
-A field or a definition of specs/ that is joined by dashes, as key-is, is joined by underscores. Lemmas of proofs/ keep their dashes.
-Names that begin with a capital, strings, comments of the code, and what stands in `the library's own words` below stay.
+A field at the top of a record, or a definition of specs/, that is joined by dashes, as key-is, is joined by underscores. Lemmas of proofs/ keep their dashes.
+Names that begin with a capital, strings, comments, and the words in LIBRARY stay.
 """
 
 import glob
@@ -60,7 +60,7 @@ def antt_parts(text):
     for line in text.splitlines(keepends=True):
         at = line.find("--") if re.match(r"\s*-- ", line) else -1
         if at >= 0:
-            # in a comment only whole names of the file are respelled: it is prose
+            # a comment is prose, and stays
             yield line, False
         else:
             yield line, True

@@ -8,7 +8,7 @@ use crate::backward::BackwardName;
 use crate::name::Name;
 use tree::Key;
 
-/// An order of names: a kind of key that has a key for each name. A register is made for one of them.
+/// An order of names: a kind of key that has a key for each name.
 pub trait NameOrder: Key {
     ghost named: { Name → Self };
 

@@ -60,6 +60,7 @@ fn join(pool: &mut Pool<'_>, left: u16, right: u16) -> u16
     requires ready { Joinable pool.old left right }
     ensures owned { (l r : Tree) (hs : List Held) → Holds pool.old (held left l ∷ held right r ∷ hs) → Holds pool.new (held result (joined l r) ∷ hs) }
     ensures used { (r : Tree) → Carries pool.old right r → used_of pool.new ≤ used_of pool.old + 3 * height r }
+    ensures within { (l r : Tree) (hs : List Held) → Holds pool.old (held left l ∷ held right r ∷ hs) → used_of pool.new ≤ used_of pool.old + 3 * height r }
     ensures size { length (memory_of pool.new) ≡ length (memory_of pool.old) }
 {
     if left == 0 {

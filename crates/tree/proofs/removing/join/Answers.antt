@@ -4,11 +4,11 @@ use Rattle.tree.proofs.removing.join.Goals as goal
 
 pub returns-then-left-eq0 : goal.returns-then-left-eq0
 returns-then-left-eq0 c =
-    record { owned = joined-right _ _ _ c.if-left-eq0.true; used = λ r carries. omega arith; size = refl }
+    record { owned = joined-right _ _ _ c.if-left-eq0.true; used = λ r carries. omega arith; within = λ l r hs h. omega arith; size = refl }
 
 pub returns-then-right-eq0 : goal.returns-then-right-eq0
 returns-then-right-eq0 c =
-    record { owned = joined-left _ _ _ c.if-right-eq0.true; used = λ r carries. omega arith; size = refl }
+    record { owned = joined-left _ _ _ c.if-right-eq0.true; used = λ r carries. omega arith; within = λ l r hs h. omega arith; size = refl }
 
 pub take_first-first-requires : goal.take_first-first-requires
 take_first-first-requires c = record { ready = right-goes _ _ _ c.requires.ready; numbered = omega (arith, c.if-right-eq0.false) }
@@ -29,5 +29,6 @@ returns c =
     record {
       owned = joined-both _ _ _ _ c.take_first-first.result.node _ some f.owned (omega (arith, c.if-left-eq0.false)) _ _ c.balance.ensures.owned;
       used = λ r carries. omega (arith, f.used r carries, c.balance.ensures.used);
+      within = λ l r hs h. omega (arith, f.used r (second-carries _ _ _ l r hs h), c.balance.ensures.used);
       size = c.balance.ensures.size ∙ f.size;
     }
