@@ -10,12 +10,15 @@ use Rattle.pool.specs.Tree.{Tree, leaf}
 use Rattle.pool.specs.declared.node.Node.{Node}
 use Rattle.pool.specs.declared.node.Words.{Words}
 use Rattle.pool.specs.declared.pool.Pool.{Pool}
-use Rattle.tree.proofs.Descent.{by-node, by-none, side-carries}
+use Rattle.tree.proofs.Descent.{by-node, by-none, end-carries, side-carries}
 use Rattle.tree.proofs.Looking.{find-items, at_most-items, after_items, first-items, last-items}
 use Rattle.tree.specs.Answer.{GivenItem, GivenValue}
+use Rattle.tree.specs.Ends.{at_end}
 use Rattle.tree.specs.Kind.{Kind}
 use Rattle.tree.specs.Lookup.{by_order, or_else, find, at_most, after, first, last, item_at, last_at_most, first_after, first_of, last_of}
 use Rattle.tree.specs.Shape.{Ascending, Item, item, items}
+use Rattle.tree.specs.declared.lookup.End.{End}
+use Rattle.tree.specs.declared.lookup.End.TheVariants.{First, Last}
 
 -- ---- no tree has no item
 
@@ -32,13 +35,17 @@ module _ (p : Pool) (n : ℕ) (none : n ≡ 0) {K : Type 0} (key : Words → K) 
   unfolding after
   after_none k = by-none p n none (λ t. P (after key order k t)) here
 
-  pub first-none : (t : Tree) → Carries p n t → P (first key order t)
+  first-none : (t : Tree) → Carries p n t → P (first key order t)
   unfolding first
   first-none = by-none p n none (λ t. P (first key order t)) here
 
-  pub last_none : (t : Tree) → Carries p n t → P (last key order t)
+  last_none : (t : Tree) → Carries p n t → P (last key order t)
   unfolding last
   last_none = by-none p n none (λ t. P (last key order t)) here
+
+  pub outermost-none : (e : End) (t : Tree) → Carries p n t → P (at_end e (first key order t) (last key order t))
+  outermost-none First = first-none
+  outermost-none Last = last_none
 
 -- ---- at a node
 
@@ -101,15 +108,29 @@ module _ (p : Pool) (hs : List Held) (h : Holds p hs) (n : ℕ) (numbered : 0 < 
   after-past k Equal e test here = after-by k Equal (sym e) here
   after-past k Greater e test here = after-by k Greater (sym e) here
 
-  pub first_by : ((nested left right : Tree) → CarriesLinks p x nested left right → P (or_else (first key order left) (Some (item_of nested))))
+  first_by : ((nested left right : Tree) → CarriesLinks p x nested left right → P (or_else (first key order left) (Some (item_of nested))))
       → (t : Tree) → Carries p n t → P (first key order t)
   unfolding first
   first_by here = by-node p hs h n numbered x is (λ t. P (first key order t)) here
 
-  pub last-by : ((nested left right : Tree) → CarriesLinks p x nested left right → P (or_else (last key order right) (Some (item_of nested))))
+  last-by : ((nested left right : Tree) → CarriesLinks p x nested left right → P (or_else (last key order right) (Some (item_of nested))))
       → (t : Tree) → Carries p n t → P (last key order t)
   unfolding last
   last-by here = by-node p hs h n numbered x is (λ t. P (last key order t)) here
+
+  pub outermost-by : (e : End)
+      → ((nested left right : Tree) → CarriesLinks p x nested left right → P (or_else (at_end e (first key order left) (last key order right)) (Some (item_of nested))))
+      → (t : Tree) → Carries p n t → P (at_end e (first key order t) (last key order t))
+  outermost-by First = first_by
+  outermost-by Last = last-by
+
+-- the answer of the side on an end
+module _ (p : Pool) {K : Type 0} (key : Words → K) (order : K → K → Ordering) (x : Node) (nested left right : Tree) (links : CarriesLinks p x nested left right)
+    (P : Option (Item K) → Type 0) where
+  pub outermost-given : (e : End) (m : ℕ) → m ≡ at_end e x.left x.right
+      → ((t : Tree) → Carries p m t → P (at_end e (first key order t) (last key order t))) → P (at_end e (first key order left) (last key order right))
+  outermost-given First m on here = here left (end-carries p x nested left right links First m on)
+  outermost-given Last m on here = here right (end-carries p x nested left right links Last m on)
 
 -- ---- what a node gives back
 
@@ -166,8 +187,13 @@ module _ {K : Type 0} (𝓚 : Kind K) (p : Pool) (n : ℕ) (P : Option (Item K) 
       → (t : Tree) → Carries p n t → Ascending 𝓚.order (items 𝓚.key t) → P (first_after 𝓚.order k (items 𝓚.key t))
   after-listed k a t c asc = subst P (after_items 𝓚 k t asc) (a t c)
 
-  pub first-listed : ((t : Tree) → Carries p n t → P (first 𝓚.key 𝓚.order t)) → (t : Tree) → Carries p n t → P (first_of (items 𝓚.key t))
+  first-listed : ((t : Tree) → Carries p n t → P (first 𝓚.key 𝓚.order t)) → (t : Tree) → Carries p n t → P (first_of (items 𝓚.key t))
   first-listed a t c = subst P (first-items 𝓚 t) (a t c)
 
-  pub last-listed : ((t : Tree) → Carries p n t → P (last 𝓚.key 𝓚.order t)) → (t : Tree) → Carries p n t → P (last_of (items 𝓚.key t))
+  last-listed : ((t : Tree) → Carries p n t → P (last 𝓚.key 𝓚.order t)) → (t : Tree) → Carries p n t → P (last_of (items 𝓚.key t))
   last-listed a t c = subst P (last-items 𝓚 t) (a t c)
+
+  pub outermost-listed : (e : End) → ((t : Tree) → Carries p n t → P (at_end e (first 𝓚.key 𝓚.order t) (last 𝓚.key 𝓚.order t)))
+      → (t : Tree) → Carries p n t → P (at_end e (first_of (items 𝓚.key t)) (last_of (items 𝓚.key t)))
+  outermost-listed First = first-listed
+  outermost-listed Last = last-listed

@@ -9,8 +9,11 @@ use Rattle.pool.specs.Sound.{memory_of}
 use Rattle.pool.specs.Tree.{Tree, fork, fork_of, leaf}
 use Rattle.pool.specs.declared.node.Node.{Node}
 use Rattle.pool.specs.declared.pool.Pool.{Pool}
+use Rattle.tree.specs.Ends.{at_end}
 use Rattle.tree.specs.Lookup.{by_order}
 use Rattle.tree.specs.Shape.{Balanced, height}
+use Rattle.tree.specs.declared.lookup.End.{End}
+use Rattle.tree.specs.declared.lookup.End.TheVariants.{First, Last}
 
 -- no node carries the leaf
 pub by-none : (p : Pool) (n : ℕ) → n ≡ 0 → (P : Tree → Type 0) → P leaf → (t : Tree) → Carries p n t → P t
@@ -31,6 +34,12 @@ pub side-carries : (p : Pool) (x : Node) (nested left right : Tree) → CarriesL
 side-carries p x nested left right ls Less m on = subst (λ (i : ℕ). Carries p i left) (sym on) ls.by_left
 side-carries p x nested left right ls Equal m on = subst (λ (i : ℕ). Carries p i leaf) (sym on) (none-carries p)
 side-carries p x nested left right ls Greater m on = subst (λ (i : ℕ). Carries p i right) (sym on) ls.by_right
+
+-- the link on an end carries the tree on that end
+pub end-carries : (p : Pool) (x : Node) (nested left right : Tree) → CarriesLinks p x nested left right → (e : End) (m : ℕ)
+    → m ≡ at_end e x.left x.right → Carries p m (at_end e left right)
+end-carries p x nested left right ls First = side-carries p x nested left right ls Less
+end-carries p x nested left right ls Last = side-carries p x nested left right ls Greater
 
 -- the node m carries a tree lower than t
 pub record Below (p : Pool) (t m : ℕ) : Type 0 where
@@ -81,3 +90,7 @@ module _ (p : Pool) (hs : List Held) (h : Holds p hs) (n : ℕ) (numbered : 0 < 
 
     pub to-side : (o : Ordering) (m : ℕ) → m ≡ by_order o x.left 0 x.right → ((u : Tree) × Carries p n u × Balanced u) → Below p t m
     to-side o m on some = subst (Below p t) (sym on) (lower o some)
+
+    pub to-end : (e : End) (m : ℕ) → m ≡ at_end e x.left x.right → ((u : Tree) × Carries p n u × Balanced u) → Below p t m
+    to-end First = to-side Less
+    to-end Last = to-side Greater

@@ -1,5 +1,6 @@
 pub mod Answer
 pub mod Append
+pub mod Ends
 pub mod Heights
 pub mod Insert
 pub mod Insertable

@@ -6,6 +6,7 @@ ghost use Rattle.pool.specs.Tree.{Tree};
 ghost use Rattle.std.specs.Option.{option_or};
 ghost use Rattle.std.specs.Ordering.{is_ge};
 ghost use Rattle.tree.specs.Answer.{GivenItem, GivenValue};
+ghost use Rattle.tree.specs.Ends.{at_end};
 ghost use Rattle.tree.specs.Lookup.{after, at_most, find, first, first_after, first_of, item_at, last, last_at_most, last_of};
 ghost use Rattle.tree.specs.Shape.{Ascending, Balanced, items};
 
@@ -102,6 +103,39 @@ pub fn after<K: Key, V: Value>(pool: &Pool<'_>, root: u16, key: K) -> Option<(K,
     }
 }
 
+/// An end of the keys.
+#[derive(Clone, Copy)]
+enum End {
+    First,
+    Last,
+}
+
+impl End {
+    /// The side of a node on this end.
+    fn side(self, node: Node) -> u16
+        ensures { result ≡ at_end self node.left node.right }
+    {
+        match self {
+            End::First => node.left,
+            End::Last => node.right,
+        }
+    }
+}
+
+/// The key at this end, with its value.
+fn outermost<K: Key, V: Value>(pool: &Pool<'_>, root: u16, end: End) -> Option<(K, V)>
+    requires held { (hs : List Held) × Holds pool.now hs }
+    requires carried { (t : Tree) × Carries pool.now root t × Balanced t }
+    ensures answered { (t : Tree) → Carries pool.now root t → GivenItem pool.now V.Value.value (at_end end (first K.Key.key K.Key.order t) (last K.Key.key K.Key.order t)) result }
+    ensures listed { (t : Tree) → Carries pool.now root t → GivenItem pool.now V.Value.value (at_end end (first_of (items K.Key.key t)) (last_of (items K.Key.key t))) result }
+{
+    if root == 0 {
+        return None;
+    }
+    let node = pool.node(root);
+    or_item::<K, V>(outermost::<K, V>(pool, end.side(node), end), node)
+}
+
 /// The least key, with its value.
 pub fn first<K: Key, V: Value>(pool: &Pool<'_>, root: u16) -> Option<(K, V)>
     requires held { (hs : List Held) × Holds pool.now hs }
@@ -109,11 +143,7 @@ pub fn first<K: Key, V: Value>(pool: &Pool<'_>, root: u16) -> Option<(K, V)>
     ensures answered { (t : Tree) → Carries pool.now root t → GivenItem pool.now V.Value.value (first K.Key.key K.Key.order t) result }
     ensures listed { (t : Tree) → Carries pool.now root t → GivenItem pool.now V.Value.value (first_of (items K.Key.key t)) result }
 {
-    if root == 0 {
-        return None;
-    }
-    let node = pool.node(root);
-    or_item::<K, V>(first::<K, V>(pool, side(node, Ordering::Less)), node)
+    outermost::<K, V>(pool, root, End::First)
 }
 
 /// The greatest key, with its value.
@@ -123,9 +153,5 @@ pub fn last<K: Key, V: Value>(pool: &Pool<'_>, root: u16) -> Option<(K, V)>
     ensures answered { (t : Tree) → Carries pool.now root t → GivenItem pool.now V.Value.value (last K.Key.key K.Key.order t) result }
     ensures listed { (t : Tree) → Carries pool.now root t → GivenItem pool.now V.Value.value (last_of (items K.Key.key t)) result }
 {
-    if root == 0 {
-        return None;
-    }
-    let node = pool.node(root);
-    or_item::<K, V>(last::<K, V>(pool, side(node, Ordering::Greater)), node)
+    outermost::<K, V>(pool, root, End::Last)
 }
