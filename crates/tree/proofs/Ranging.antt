@@ -8,6 +8,7 @@ use Rattle.std.specs.List.{AllByRecursion}
 use Rattle.tree.specs.Kind.{Kind}
 use Rattle.tree.specs.Range.{Modest, Totals, inside, sum_of, walk, within}
 use Rattle.tree.specs.Shape.{Ascending, Balanced, Item, item, items}
+use Rattle.tree.specs.Totals.{Fits, Sums}
 use Rattle.tree.specs.declared.range.Total.{Total}
 use Rattle.tree.proofs.Orders.{Before, Behind, around, before-all, behind-all, equal-before, equal-behind, same_key, self}
 use Rattle.tree.proofs.Counting.{few}
@@ -30,12 +31,6 @@ sum-append (x ∷ xs) ys = omega (arith, ints, sum-append xs ys)
 record Summable {K : Type 0} (xs : List (Item K)) : Type 0 where
   few : length xs ≤ 65535
   modest : AllByRecursion Modest xs
-
--- two totals have a sum
-pub record Fits (a b : Total) : Type 0 where
-  pub counted : a.count + b.count < 2 ^ 32
-  pub above : negsuc 9_000_000_000_000_000_000 ≤ℤ (a.sum +ℤ b.sum)
-  pub below : (a.sum +ℤ b.sum) ≤ℤ pos 9_000_000_000_000_000_000
 
 module _ {K : Type 0} where
   all_split : (P : Item K → Type 0) (xs ys : List (Item K)) → AllByRecursion P (xs ++ ys) → AllByRecursion P xs × AllByRecursion P ys

@@ -14,5 +14,6 @@ pub mod Rebuild
 pub mod Removable
 pub mod Remove
 pub mod Shape
+pub mod Totals
 pub mod Value
 pub mod Worked

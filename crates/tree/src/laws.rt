@@ -7,11 +7,9 @@ ghost use Rattle.tree.specs.Worked.{WorkedFacts};
 /// The laws of the tree hold for every kind of key.
 pub fn laws_hold<K>()
     ensures { (𝓚 : Kind K) → TreeLaws 𝓚 }
-{
-}
+{}
 
 /// The small trees come out as worked by hand.
 pub fn worked_facts_hold()
     ensures { WorkedFacts }
-{
-}
+{}

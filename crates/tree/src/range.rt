@@ -11,39 +11,25 @@ ghost use Rattle.tree.specs.Shape.{Ascending, Balanced, item, items};
 use crate::key::Key;
 use crate::place::is_before;
 use pool::{Node, Pool};
+use std::ops::Add;
 
 /// How many keys, and the sum of their words.
-#[derive(Clone, Copy)]
+#[derive(Clone, Copy, Default)]
 pub struct Total {
     pub count: u32,
     pub sum: i64,
 }
 
-impl Total {
-    fn none() -> Total
-        ensures count { result.count ≡ 0 }
-        ensures sum { result.sum ≡ pos 0 }
-    {
-        Total { count: 0, sum: 0 }
-    }
+impl Add for Total {
+    ghost use Rattle.tree.specs.Totals.{Fits, Sums};
 
-    fn one(word: i64) -> Total
-        ensures count { result.count ≡ 1 }
-        ensures sum { result.sum ≡ word }
-    {
-        Total {
-            count: 1,
-            sum: word,
-        }
-    }
+    type Output = Total;
 
-    fn plus(self, other: Total) -> Total
-        requires counted { self.count + other.count < 2 ^ 32 }
-        requires above { negsuc 9_000_000_000_000_000_000 ≤ℤ (self.sum +ℤ other.sum) }
-        requires below { (self.sum +ℤ other.sum) ≤ℤ pos 9_000_000_000_000_000_000 }
-        ensures count { result.count ≡ self.count + other.count }
-        ensures sum { result.sum ≡ self.sum +ℤ other.sum }
-    {
+    ghost can_add = { Fits };
+
+    ghost add_gives = { Sums };
+
+    fn add(self, other: Total) -> Total {
         Total {
             count: self.count + other.count,
             sum: self.sum + other.sum,
@@ -57,9 +43,12 @@ fn own<K: Key>(node: Node, low: K, high: K) -> Total
 {
     let key = K::from_words(node.key);
     if low.compare(key).is_le() && key.compare(high).is_le() {
-        Total::one(node.word)
+        Total {
+            count: 1,
+            sum: node.word,
+        }
     } else {
-        Total::none()
+        Total::default()
     }
 }
 
@@ -95,10 +84,10 @@ pub fn total_between<K: Key>(pool: &Pool<'_>, root: u16, low: K, high: K) -> Tot
     ensures listed { (t : Tree) → Carries pool.now root t → Ascending K.Key.order (items K.Key.key t) → Totals (within K.Key.order low high (items K.Key.key t)) result }
 {
     if root == 0 {
-        return Total::none();
+        return Total::default();
     }
     let node = pool.node(root);
     let below = total_between::<K>(pool, left_from::<K>(node, low), low, high);
     let above = total_between::<K>(pool, right_to::<K>(node, high), low, high);
-    below.plus(own::<K>(node, low, high).plus(above))
+    below + (own::<K>(node, low, high) + above)
 }
