@@ -6,8 +6,8 @@ use Rattle.pool.specs.declared.node.Node.{Node}
 use Rattle.pool.specs.declared.pool.Pool.{Pool}
 use Rattle.tree.proofs.Building.{left-carries, right-carries}
 use Rattle.tree.proofs.Rotating.{Measures, Puts}
+use Rattle.tree.proofs.Sides.{sides}
 use Rattle.tree.proofs.Steps.{balance-left, balance-level, balance-right}
-use Rattle.tree.specs.Ready.{sides}
 use Rattle.tree.specs.Rebuild.{balance, node, rotate_left, rotate_right}
 use Rattle.tree.specs.Shape.{height}
 

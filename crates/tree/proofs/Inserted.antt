@@ -19,7 +19,8 @@ use Rattle.tree.proofs.Steps.{insert-equal, insert-greater, insert-leaf, insert-
 use Rattle.tree.specs.Append.{Behind, LeansRight}
 use Rattle.tree.specs.Insert.{Present, insert, on_side}
 use Rattle.tree.specs.Insertable.{Insertable, entry_of, replacing}
-use Rattle.tree.specs.Ready.{Balanceable, sides}
+use Rattle.tree.proofs.Sides.{over, sides}
+use Rattle.tree.specs.Ready.{Balanceable}
 use Rattle.tree.specs.Rebuild.{balance, node}
 use Rattle.tree.specs.Shape.{Balanced, height}
 
@@ -40,16 +41,16 @@ less-or-greater o e f = let z : ◌≡◌ {A = ℕ} 0 1 = cc in omega arith
 -- ---- a tree of no nodes
 
 module _ (p : Pool) (n link : ℕ) (none : n ≡ 0) (words : Words) (word : ℤ) (y : Node) (is : y ≡ entry_of words word link) where
-  pub entry-sides : (t nested : Tree) (hs : List Held) → Holds p (held n t ∷ held link nested ∷ hs) → Holds p (sides y 0 0 nested leaf leaf hs)
+  pub entry-sides : (t nested : Tree) (hs : List Held) → Holds p (held n t ∷ held link nested ∷ hs) → Holds p (sides y y.left y.right nested leaf leaf hs)
   entry-sides leaf nested hs h =
       let at : Holds p (held 0 leaf ∷ held link nested ∷ hs) = subst (λ (i : ℕ). Holds p (held i leaf ∷ held link nested ∷ hs)) none h in
       let both : Holds p (held 0 leaf ∷ held 0 leaf ∷ held link nested ∷ hs) = holds-leaf p 0 leaf (held 0 leaf ∷ held link nested ∷ hs) refl refl at in
-      subst (λ (z : Node). Holds p (sides z 0 0 nested leaf leaf hs)) (sym is)
+      subst (λ (z : Node). Holds p (sides z z.left z.right nested leaf leaf hs)) (sym is)
       (third-second p (held 0 leaf) (held 0 leaf) (held link nested) hs both)
   entry-sides (fork key held_word tall inner left right) nested hs h =
       let some : 0 < n = (held-carries p n (fork key held_word tall inner left right) _ h).linked.0 in absurd (omega arith)
 
-  pub inserted-leaf : (place : Words → Ordering) (q : Pool) (m : ℕ) → Puts node p q y 0 0 m → Inserts place words word p q n link m
+  pub inserted-leaf : (place : Words → Ordering) (q : Pool) (m : ℕ) → Puts node p q y y.left y.right m → Inserts place words word p q n link m
   inserted-leaf place q m put leaf nested hs h =
       subst (λ (t : Tree). Holds q (held m t ∷ hs)) (sym (insert-leaf place words word nested))
       (subst (λ (z : Node). Holds q (held m (node z.key z.word nested leaf leaf) ∷ hs)) is
@@ -261,7 +262,7 @@ module _ {p : Pool} {n link : ℕ} (d : LowFork p n link) (q : Pool) (x : Node) 
       ]
 
   module _ (place : Words → Ordering) (new : Words) (word : ℤ) (q1 : Pool) where
-    pub left-balanceable : (l : ℕ) → Inserts place new word q q1 x.left link l → Balanceable q1 x l x.right
+    pub left-balanceable : (l : ℕ) → Inserts place new word q q1 x.left link l → Balanceable q1 (over x l x.right)
     left-balanceable l first =
         let g = insert-grown place new word d.trees.nested d.trees.left d.balanced.3 in
         record {
@@ -277,7 +278,7 @@ module _ {p : Pool} {n link : ℕ} (d : LowFork p n link) (q : Pool) (x : Node) 
           low_right = omega (arith, d.low, right-lower (standing d.trees) d.balanced);
         }
 
-    pub right-balanceable : (r : ℕ) → Inserts place new word q q1 x.right link r → Balanceable q1 x x.left r
+    pub right-balanceable : (r : ℕ) → Inserts place new word q q1 x.right link r → Balanceable q1 (over x x.left r)
     right-balanceable r first =
         let g = insert-grown place new word d.trees.nested d.trees.right d.balanced.4 in
         record {

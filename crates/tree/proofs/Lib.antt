@@ -16,7 +16,8 @@ pub mod Permuted
 pub mod Ranging
 pub mod Removed
 pub mod Rotating
-pub mod Standing
+pub mod Sides
+mod Standing
 pub mod Steps
 pub mod TreeLaws
 pub mod Worked

@@ -1,5 +1,5 @@
 -- The walk over a range of keys gives what the list of items has in the range, and its sums stay within 64 bits.
-use Rattle.std.proofs.Common.{◌≡◌, ℕ, ◌+◌, ◌*◌, ◌^◌, ◌<◌, ◌≤◌, Bool, true, false, cond, ◌&&◌, List, [], ◌∷◌, ◌++◌, length, pos, negsuc, ◌+ℤ◌, ◌≤ℤ◌, filter, Ordering, Less, Equal, Greater, sym, refl, ap, ◌∙◌, subst, arith, length-append}
+use Rattle.std.proofs.Common.{◌≡◌, ℕ, ◌+◌, ◌*◌, ◌<◌, ◌≤◌, Bool, true, false, cond, ◌&&◌, List, [], ◌∷◌, ◌++◌, length, pos, ◌+ℤ◌, ◌≤ℤ◌, filter, Ordering, Less, Equal, Greater, sym, refl, ap, ◌∙◌, subst, arith, length-append}
 use Rattle.std.proofs.lemmas.List.Elements.{filter-append}
 use Rattle.std.proofs.ByRecursion.{All-append}
 use Rattle.std.proofs.lemmas.Int.{ints}
@@ -8,7 +8,7 @@ use Rattle.std.specs.List.{AllByRecursion}
 use Rattle.tree.specs.Kind.{Kind}
 use Rattle.tree.specs.Range.{Modest, Totals, inside, sum_of, walk, within}
 use Rattle.tree.specs.Shape.{Ascending, Balanced, Item, item, items}
-use Rattle.tree.specs.Totals.{Fits, Sums}
+use Rattle.tree.specs.Totals.{Fits}
 use Rattle.tree.specs.declared.range.Total.{Total}
 use Rattle.tree.proofs.Orders.{Before, Behind, around, before-all, behind-all, equal-before, equal-behind, same_key, self}
 use Rattle.tree.proofs.Counting.{few}

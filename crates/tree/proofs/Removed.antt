@@ -13,7 +13,8 @@ use Rattle.tree.proofs.Permuted.{first-fourth, first-third, third-first}
 use Rattle.tree.proofs.Rotating.{Opens, Puts, same-root}
 use Rattle.tree.proofs.Standing.{Standing, at_left, at_nested, at_right, key-placed, left-lower, right-lower, standing_tree, stood-apart}
 use Rattle.tree.proofs.Steps.{first-fork, first_leaf, join-forks, join-left-leaf, join-right-leaf, remove-equal, remove-greater, remove-leaf, remove-less, without_first-fork, without_first-leaf}
-use Rattle.tree.specs.Ready.{Balanceable, sides}
+use Rattle.tree.proofs.Sides.{over, sides}
+use Rattle.tree.specs.Ready.{Balanceable}
 use Rattle.tree.specs.Rebuild.{balance}
 use Rattle.tree.specs.Removable.{FirstTaken, Joinable, Leaving, Removable, leaving}
 use Rattle.tree.specs.Remove.{first, join, remove, without_first}
@@ -169,7 +170,7 @@ module _ {p : Pool} {n : ℕ} (d : LowStanding p n) (q : Pool) (x : Node) (opene
         }
 
   module _ (place : Words → Ordering) (q1 : Pool) where
-    pub left-shrunk : (l : ℕ) → Removes place q q1 x.left l → Balanceable q1 x l x.right
+    pub left-shrunk : (l : ℕ) → Removes place q q1 x.left l → Balanceable q1 (over x l x.right)
     left-shrunk l gone =
         let s = remove-shrunk place d.trees.left d.balanced.3 in
         record {
@@ -185,7 +186,7 @@ module _ {p : Pool} {n : ℕ} (d : LowStanding p n) (q : Pool) (x : Node) (opene
           low_right = omega (arith, d.low, right-lower d.trees d.balanced);
         }
 
-    pub right-shrunk : (r : ℕ) → Removes place q q1 x.right r → Balanceable q1 x x.left r
+    pub right-shrunk : (r : ℕ) → Removes place q q1 x.right r → Balanceable q1 (over x x.left r)
     right-shrunk r gone =
         let s = remove-shrunk place d.trees.right d.balanced.4 in
         record {
@@ -259,7 +260,7 @@ module _ (p q : Pool) (n : ℕ) (x : Node) (opened : Opens p q n x) where
 
     rest-balanceable-of : (key : Words) (word : ℤ) (tall : ℕ) (nested left right : Tree) (hs : List Held)
         → Holds p (held n (fork key word tall nested left right) ∷ hs) → length hs + 2 * tall + 8 < 2 ^ 31
-        → Balanced (fork key word tall nested left right) → tall ≤ 100 → Balanceable q1 x l x.right
+        → Balanced (fork key word tall nested left right) → tall ≤ 100 → Balanceable q1 (over x l x.right)
     rest-balanceable-of key word tall nested leaf right hs h few b low =
         let z : x.left ≡ 0 = (held-carries q x.left leaf _ (opened key word tall nested leaf right hs h).holds).linked in absurd (omega arith)
     rest-balanceable-of key word tall nested (fork lower under high inner before middle) right hs h few b low =
@@ -278,7 +279,7 @@ module _ (p q : Pool) (n : ℕ) (x : Node) (opened : Opens p q n x) where
           low_right = omega arith;
         }
 
-    pub rest-balanceable : LowStanding p n → Balanceable q1 x l x.right
+    pub rest-balanceable : LowStanding p n → Balanceable q1 (over x l x.right)
     rest-balanceable d =
         rest-balanceable-of d.trees.key d.trees.word d.trees.tall d.trees.nested d.trees.left d.trees.right d.trees.others d.trees.holds d.few d.balanced d.low
 
@@ -339,7 +340,7 @@ module _ (p : Pool) (left right : ℕ) where
         (put root.nested l without hs (joined-sides l upper word high nested before behind hs h)))
 
     joined-balanceable-of : (l r : Tree) (hs : List Held) → Holds p (held left l ∷ held right r ∷ hs) → length hs + 2 * height r + 10 < 2 ^ 31 → Balanced l
-        → Balanced r → height l ≤ 100 → height r ≤ 100 → Balanceable q y left rest
+        → Balanced r → height l ≤ 100 → height r ≤ 100 → Balanceable q (over y left rest)
     joined-balanceable-of l leaf hs h few bl br low-l low-r =
         let z : right ≡ 0 = (held-carries p right leaf _ (holds-swapped p (held left l) (held right leaf) hs h)).linked in absurd (omega arith)
     joined-balanceable-of l (fork upper word high nested before behind) hs h few bl br low-l low-r =
@@ -357,7 +358,7 @@ module _ (p : Pool) (left right : ℕ) where
           low_right = omega (arith, s.most);
         }
 
-    pub joined-balanceable : Joinable p left right → Balanceable q y left rest
+    pub joined-balanceable : Joinable p left right → Balanceable q (over y left rest)
     joined-balanceable j =
         joined-balanceable-of j.l j.r j.others j.holds j.few j.balanced_left j.balanced_right j.low_left j.low_right
 

@@ -13,7 +13,8 @@ use Rattle.tree.proofs.Building.{left-carries, right-carries}
 use Rattle.tree.proofs.Permuted.{third-first, first-third, three-behind-two, two-behind-three}
 use Rattle.tree.proofs.Steps.{rotate_double-fork, rotate_left-double, rotate_left-single, rotate_right-double, rotate_right-single}
 use Rattle.tree.specs.Append.{LeansRight}
-use Rattle.tree.specs.Ready.{Balanceable, Doubled, sides, three_sides}
+use Rattle.tree.proofs.Sides.{sides, three_sides}
+use Rattle.tree.specs.Ready.{Balanceable, Doubled}
 use Rattle.tree.specs.Rebuild.{node, rotate_double, rotate_left, rotate_right}
 use Rattle.tree.specs.Shape.{Balanced, height}
 
@@ -29,6 +30,12 @@ Opens p q n x =
 abbrev pub Puts : (Words → ℤ → Tree → Tree → Tree → Tree) → Pool → Pool → Node → ℕ → ℕ → ℕ → Type 0
 Puts build p q root left right n =
     (nested l r : Tree) (hs : List Held) → Holds p (sides root left right nested l r hs) → Holds q (held n (build root.key root.word nested l r) ∷ hs)
+
+-- the same where the call was handed an equal word
+pub puts : (build : Words → ℤ → Tree → Tree → Tree → Tree) (p q : Pool) (root : Node) (left right n : ℕ) (word : ℤ)
+    → ((nested l r : Tree) (hs : List Held) → Holds p (sides root left right nested l r hs) → Holds q (held n (build root.key word nested l r) ∷ hs))
+    → word ≡ root.word → Puts build p q root left right n
+puts build p q root left right n word put same nested l r hs h = subst (λ (w : ℤ). Holds q (held n (build root.key w nested l r) ∷ hs)) same (put nested l r hs h)
 
 -- three sides are put under two roots
 abbrev pub Doubles : Pool → Pool → Node → Node → ℕ → ℕ → ℕ → ℕ → Type 0
@@ -78,7 +85,7 @@ pub record Three (p : Pool) (lower upper : Node) (left middle right : ℕ) : Typ
   pub others : List Held
   pub holds : Holds p (three_sides lower upper left middle right inner nested l (fork key word tall within before behind) r others)
 
-abbrev pub three : {p : Pool} {lower upper : Node} {left middle right : ℕ} → Doubled p lower upper left middle right → Three p lower upper left middle right
+abbrev pub three : {p : Pool} {lower upper : Node} {middle : ℕ} → Doubled p lower upper middle → Three p lower upper lower.left middle upper.right
 three d =
     record {
       inner = d.inner;
@@ -169,11 +176,11 @@ rotated-double p q q1 q2 q3 lower upper x left middle right a b n numbered opene
     double-rotated d q x opened q1 a first q2 b second q3 n third
 
 -- a middle side that is higher than another has nodes, and can come up
-pub doubled-ready : (p : Pool) (lower upper : Node) (left middle right : ℕ) (inner nested l m r : Tree) (hs : List Held)
-    → Holds p (three_sides lower upper left middle right inner nested l m r hs) → length hs + 6 < 2 ^ 31 → height l ≤ 100 → Balanced m
-    → height m ≤ 100 → height r ≤ 100 → 0 < height m → Doubled p lower upper left middle right
-doubled-ready p lower upper left middle right inner nested l leaf r hs h few low-l b low-m low-r some = absurd (omega arith)
-doubled-ready p lower upper left middle right inner nested l (fork key word tall within before behind) r hs h few low-l b low-m low-r some =
+pub doubled-ready : (p : Pool) (lower upper : Node) (middle : ℕ) (inner nested l m r : Tree) (hs : List Held)
+    → Holds p (three_sides lower upper lower.left middle upper.right inner nested l m r hs) → length hs + 6 < 2 ^ 31 → height l ≤ 100 → Balanced m
+    → height m ≤ 100 → height r ≤ 100 → 0 < height m → Doubled p lower upper middle
+doubled-ready p lower upper middle inner nested l leaf r hs h few low-l b low-m low-r some = absurd (omega arith)
+doubled-ready p lower upper middle inner nested l (fork key word tall within before behind) r hs h few low-l b low-m low-r some =
     let e : tall ≡ suc (max (height before) (height behind)) = b.0 in
     record {
       inner = inner;
@@ -245,9 +252,9 @@ low-left-of p root left right nested (fork key word tall inner before middle) r 
       low_right = low-r;
     }
 
-pub low_left : {p : Pool} {root : Node} {left right : ℕ} → Balanceable p root left right → 0 < left → LowLeft p root left right
-low_left {p = p} {root = root} {left = left} {right = right} b =
-    low-left-of p root left right b.nested b.l b.r b.others b.holds b.few b.balanced_left b.low_left b.low_right
+pub low_left : {p : Pool} {root : Node} → Balanceable p root → 0 < root.left → LowLeft p root root.left root.right
+low_left {p = p} {root = root} b =
+    low-left-of p root root.left root.right b.nested b.l b.r b.others b.holds b.few b.balanced_left b.low_left b.low_right
 
 module _ {p : Pool} {root : Node} {left right : ℕ} (d : HighLeft p root left right) where
   abbrev left_tree : Tree
@@ -385,9 +392,9 @@ low-right-of p root left right nested l (fork key word tall inner middle behind)
       low_behind = omega arith;
     }
 
-pub low_right : {p : Pool} {root : Node} {left right : ℕ} → Balanceable p root left right → 0 < right → LowRight p root left right
-low_right {p = p} {root = root} {left = left} {right = right} b =
-    low-right-of p root left right b.nested b.l b.r b.others b.holds b.few b.balanced_right b.low_left b.low_right
+pub low_right : {p : Pool} {root : Node} → Balanceable p root → 0 < root.right → LowRight p root root.left root.right
+low_right {p = p} {root = root} b =
+    low-right-of p root root.left root.right b.nested b.l b.r b.others b.holds b.few b.balanced_right b.low_left b.low_right
 
 module _ {p : Pool} {root : Node} {left right : ℕ} (d : HighRight p root left right) where
   abbrev right_tree : Tree

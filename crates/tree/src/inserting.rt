@@ -69,18 +69,18 @@ pub fn insert<K: Key, V: Value>(pool: &mut Pool<'_>, n: u16, key: K, value: V) -
     ensures size { length (memory_of pool.new) ≡ length (memory_of pool.old) }
 {
     if n == 0 {
-        return build(pool, entry(key, value), 0, 0);
+        return build(pool, entry(key, value));
     }
     let node = pool.take_apart(n);
     match compare_at::<K>(key, node) {
         Ordering::Less => {
             let left = insert(pool, node.left, key, value);
-            balance(pool, node, left, node.right)
+            balance(pool, Node { left, ..node })
         }
         Ordering::Equal => replace(pool, node, value),
         Ordering::Greater => {
             let right = insert(pool, node.right, key, value);
-            balance(pool, node, node.left, right)
+            balance(pool, Node { right, ..node })
         }
     }
 }

@@ -48,7 +48,13 @@ fn take_first(pool: &mut Pool<'_>, n: u16) -> First
         return First::here(node);
     }
     let lower = take_first(pool, node.left);
-    let rest = balance(pool, node, lower.rest, node.right);
+    let rest = balance(
+        pool,
+        Node {
+            left: lower.rest,
+            ..node
+        },
+    );
     First {
         node: lower.node,
         rest,
@@ -70,7 +76,14 @@ fn join(pool: &mut Pool<'_>, left: u16, right: u16) -> u16
         return left;
     }
     let first = take_first(pool, right);
-    balance(pool, first.node, left, first.rest)
+    balance(
+        pool,
+        Node {
+            left,
+            right: first.rest,
+            ..first.node
+        },
+    )
 }
 
 /// Joins the two sides of a node that was taken apart. What its value owned is let go.
@@ -99,12 +112,12 @@ pub fn remove<K: Key>(pool: &mut Pool<'_>, n: u16, key: K) -> u16
     match compare_at::<K>(key, node) {
         Ordering::Less => {
             let left = remove(pool, node.left, key);
-            balance(pool, node, left, node.right)
+            balance(pool, Node { left, ..node })
         }
         Ordering::Equal => join_sides(pool, node),
         Ordering::Greater => {
             let right = remove(pool, node.right, key);
-            balance(pool, node, node.left, right)
+            balance(pool, Node { right, ..node })
         }
     }
 }

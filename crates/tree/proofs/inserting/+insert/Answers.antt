@@ -1,9 +1,11 @@
-use Rattle.std.proofs.Common.{◌≡◌, ◌+◌, ◌<◌, Less, Greater, sym, ◌∙◌, arith}
+use Rattle.std.proofs.Common.{rules, ◌≡◌, ◌+◌, ◌<◌, Less, Greater, sym, ◌∙◌, arith}
 use Rattle.pool.specs.Sound.{used_of}
 use Rattle.tree.proofs.Inserted.{appended-used, entry-sides, inserted-equal, inserted-greater, inserted-leaf, inserted-less, left-balanceable, left-insertable, low-fork, none-present, not_behind, old-first, present-side, right-balanceable, right-insertable, standing, whole-behind}
-use Rattle.tree.proofs.Rotating.{apart-fewer}
+use Rattle.tree.proofs.Rotating.{apart-fewer, puts}
 use Rattle.tree.proofs.Standing.{left-falls, right-falls, standing-height, stood-left, stood-right}
 use Rattle.tree.specs.Insert.{compared}
+use Rattle.tree.proofs.Sides.{worded}
+use Rattle.tree.specs.Rebuild.{balance}
 use Rattle.tree.proofs.inserting.+insert.Goals as goal
 
 pub build-requires : goal.build-requires
@@ -62,7 +64,7 @@ balance-requires g t c =
     let fewer = apart-fewer _ _ _ (used_of c.args.pool.now) (used_of c.take_apart-node.new.self) _ _ d.trees.holds n e.node e.shared e.last in
     let used = c.insert-left.ensures.used _ (stood-left (standing d.trees) _ _ e.owned) in
     record {
-      ready = left-balanceable d _ _ e.owned _ _ _ _ _ c.insert-left.ensures.owned;
+      ready = worded _ c.take_apart-node.result _ _ _ (left-balanceable d _ _ e.owned _ _ _ _ _ c.insert-left.ensures.owned);
       room = omega (arith, fewer, used, d.room, d.balanced.0, e.size, c.insert-left.ensures.size);
     }
 
@@ -74,7 +76,7 @@ balance-requires-in-Greater g t c =
     let fewer = apart-fewer _ _ _ (used_of c.args.pool.now) (used_of c.take_apart-node.new.self) _ _ d.trees.holds n e.node e.shared e.last in
     let used = c.insert-right.ensures.used _ (stood-right (standing d.trees) _ _ e.owned) in
     record {
-      ready = right-balanceable d _ _ e.owned _ _ _ _ _ c.insert-right.ensures.owned;
+      ready = worded _ c.take_apart-node.result _ _ _ (right-balanceable d _ _ e.owned _ _ _ _ _ c.insert-right.ensures.owned);
       room = omega (arith, fewer, used, d.room, d.balanced.0, e.size, c.insert-right.ensures.size);
     }
 
@@ -95,7 +97,7 @@ returns-in-Less g t c =
     let used = c.insert-left.ensures.used _ (stood-left (standing d.trees) _ _ e.owned) in
     let less = sym c.in-Less.ensures in
     record {
-      owned = inserted-less _ _ _ _ _ c.take_apart-node.result _ _ n e.owned _ _ _ _ less c.insert-left.ensures.owned c.balance.ensures.owned;
+      owned = inserted-less _ _ _ _ _ c.take_apart-node.result _ _ n e.owned _ _ _ _ less c.insert-left.ensures.owned (puts balance _ _ c.take_apart-node.result _ _ _ _ c.balance.ensures.owned (search rules));
       used = λ u carries. omega (arith, standing-height (standing d.trees) u carries, d.balanced.0, fewer, used, c.balance.ensures.used);
       replaced = λ u carries there.
           let place = compared g.K.Key.key g.K.Key.order c.args.key in
@@ -135,7 +137,7 @@ returns-in-Greater g t c =
     let place = compared g.K.Key.key g.K.Key.order c.args.key in
     let greater = sym c.in-Greater.ensures in
     record {
-      owned = inserted-greater _ _ _ _ _ c.take_apart-node.result _ _ n e.owned _ _ _ _ greater c.insert-right.ensures.owned c.balance-in-Greater.ensures.owned;
+      owned = inserted-greater _ _ _ _ _ c.take_apart-node.result _ _ n e.owned _ _ _ _ greater c.insert-right.ensures.owned (puts balance _ _ c.take_apart-node.result _ _ _ _ c.balance-in-Greater.ensures.owned (search rules));
       used = λ u carries. omega (arith, standing-height (standing d.trees) u carries, d.balanced.0, fewer, used, c.balance-in-Greater.ensures.used);
       replaced = λ u carries there.
           let side = c.insert-right.ensures.replaced _ carried (present-side d.trees _ _ e.owned u carries place Greater greater there) in

@@ -7,35 +7,35 @@ use Rattle.tree.proofs.rebuild.balance.Goals as goal
 
 pub stored_height-before-requires : goal.stored_height-before-requires
 stored_height-before-requires c =
-    let b = c.requires.ready in (b.l, left-carries _ c.args.root _ c.args.right b.nested b.l b.r b.others b.holds)
+    let b = c.requires.ready in (b.l, left-carries _ c.args.root _ c.args.root.right b.nested b.l b.r b.others b.holds)
 
 pub stored_height-behind-requires : goal.stored_height-behind-requires
 stored_height-behind-requires c =
-    let b = c.requires.ready in (b.r, right-carries _ c.args.root c.args.left _ b.nested b.l b.r b.others b.holds)
+    let b = c.requires.ready in (b.r, right-carries _ c.args.root c.args.root.left _ b.nested b.l b.r b.others b.holds)
 
 pub is_too_high-requires : goal.is_too_high-requires
 is_too_high-requires c =
     let b = c.requires.ready in
-    omega (arith, b.low_right, c.stored_height-behind.ensures b.r (right-carries _ c.args.root c.args.left _ b.nested b.l b.r b.others b.holds))
+    omega (arith, b.low_right, c.stored_height-behind.ensures b.r (right-carries _ c.args.root c.args.root.left _ b.nested b.l b.r b.others b.holds))
 
 pub rotate_right-requires : goal.rotate_right-requires
 rotate_right-requires c =
     let test : c.stored_height-behind.result + 1 < c.stored_height-before.result = omega (arith, ltb-true _ _ (sym c.is_too_high.ensures ∙ c.if-is_too_high.true)) in
     let b = c.requires.ready in
-    let carries = left-carries _ c.args.root _ c.args.right b.nested b.l b.r b.others b.holds in
+    let carries = left-carries _ c.args.root _ c.args.root.right b.nested b.l b.r b.others b.holds in
     let high = c.stored_height-before.ensures b.l carries in
     record { ready = b; numbered = numbered-fork _ _ b.l carries (omega arith); room = c.requires.room }
 
 pub is_too_high-requires-else-is_too_high : goal.is_too_high-requires-else-is_too_high
 is_too_high-requires-else-is_too_high c =
     let b = c.requires.ready in
-    omega (arith, b.low_left, c.stored_height-before.ensures b.l (left-carries _ c.args.root _ c.args.right b.nested b.l b.r b.others b.holds))
+    omega (arith, b.low_left, c.stored_height-before.ensures b.l (left-carries _ c.args.root _ c.args.root.right b.nested b.l b.r b.others b.holds))
 
 pub rotate_left-requires : goal.rotate_left-requires
 rotate_left-requires c =
     let test : c.stored_height-before.result + 1 < c.stored_height-behind.result = omega (arith, ltb-true _ _ (sym c.is_too_high-else-is_too_high.ensures ∙ c.if-is_too_high-2.true)) in
     let b = c.requires.ready in
-    let carries = right-carries _ c.args.root c.args.left _ b.nested b.l b.r b.others b.holds in
+    let carries = right-carries _ c.args.root c.args.root.left _ b.nested b.l b.r b.others b.holds in
     let high = c.stored_height-behind.ensures b.r carries in
     record { ready = b; numbered = numbered-fork _ _ b.r carries (omega arith); room = c.requires.room }
 
@@ -64,12 +64,12 @@ returns-then-is_too_high c =
       owned = balanced_left _ _ c.args.root _ _ _ _ m n test _ c.rotate_right.ensures.owned;
       used = c.rotate_right.ensures.used;
       level = λ nested l r hs h low high.
-          let x = m l (left-carries _ c.args.root _ c.args.right nested l r hs h) in
-          let y = n r (right-carries _ c.args.root c.args.left _ nested l r hs h) in
+          let x = m l (left-carries _ c.args.root _ c.args.root.right nested l r hs h) in
+          let y = n r (right-carries _ c.args.root c.args.root.left _ nested l r hs h) in
           absurd (omega (arith, test));
       single = λ nested l r hs h high leans one.
-          let x = m l (left-carries _ c.args.root _ c.args.right nested l r hs h) in
-          let y = n r (right-carries _ c.args.root c.args.left _ nested l r hs h) in
+          let x = m l (left-carries _ c.args.root _ c.args.root.right nested l r hs h) in
+          let y = n r (right-carries _ c.args.root c.args.root.left _ nested l r hs h) in
           absurd (omega (arith, test));
       fresh = c.rotate_right.ensures.fresh;
       size = c.rotate_right.ensures.size;
@@ -85,8 +85,8 @@ returns-then-is_too_high-2 c =
       owned = balanced_right _ _ c.args.root _ _ _ _ m n low test _ c.rotate_left.ensures.owned;
       used = c.rotate_left.ensures.used;
       level = λ nested l r hs h by_left by_right.
-          let x = m l (left-carries _ c.args.root _ c.args.right nested l r hs h) in
-          let y = n r (right-carries _ c.args.root c.args.left _ nested l r hs h) in
+          let x = m l (left-carries _ c.args.root _ c.args.root.right nested l r hs h) in
+          let y = n r (right-carries _ c.args.root c.args.root.left _ nested l r hs h) in
           absurd (omega (arith, test));
       single = λ nested l r hs h high. c.rotate_left.ensures.single nested l r hs h;
       fresh = c.rotate_left.ensures.fresh;

@@ -1,14 +1,15 @@
-use Rattle.std.proofs.Common.{◌∙◌, arith}
+use Rattle.std.proofs.Common.{rules, ◌∙◌, arith}
 use Rattle.pool.specs.Sound.{used_of}
-use Rattle.tree.proofs.Rotating.{apart-fewer, lower-sides, middle-first, middle-numbered, new-sides, rotated-double, three, upper-sides}
+use Rattle.tree.proofs.Rotating.{apart-fewer, lower-sides, middle-first, middle-numbered, new-sides, puts, rotated-double, three, upper-sides}
+use Rattle.tree.specs.Rebuild.{node}
 use Rattle.tree.proofs.rebuild.rotate_double.Goals as goal
 
 pub take_apart-root-requires : goal.take_apart-root-requires
 take_apart-root-requires c =
     let d = three c.requires.ready in record { held = (_, _, middle-first d, omega (arith, c.requires.ready.few)); numbered = middle-numbered d }
 
-pub build-before-requires : goal.build-before-requires
-build-before-requires c =
+pub build-left-requires : goal.build-left-requires
+build-left-requires c =
     let d = three c.requires.ready in
     let e = c.take_apart-root.ensures in
     let fewer = apart-fewer _ _ _ (used_of c.args.pool.now) (used_of c.take_apart-root.new.self) _ _ (middle-first d) (middle-numbered d) e.node e.shared e.last in
@@ -25,8 +26,8 @@ build-before-requires c =
       room = omega (arith, e.size);
     }
 
-pub build-behind-requires : goal.build-behind-requires
-build-behind-requires c =
+pub build-right-requires : goal.build-right-requires
+build-right-requires c =
     let d = three c.requires.ready in
     let e = c.take_apart-root.ensures in
     let fewer = apart-fewer _ _ _ (used_of c.args.pool.now) (used_of c.take_apart-root.new.self) _ _ (middle-first d) (middle-numbered d) e.node e.shared e.last in
@@ -36,11 +37,11 @@ build-behind-requires c =
         l = _;
         r = _;
         others = _;
-        holds = upper-sides d _ _ e.owned _ _ c.build-before.ensures.owned;
+        holds = upper-sides d _ _ e.owned _ _ (puts node _ _ c.args.lower _ _ _ _ c.build-left.ensures.owned (search rules));
         low_left = omega (arith, c.requires.ready.low_behind);
         low_right = omega (arith, c.requires.ready.low_right);
       };
-      room = omega (arith, e.size, c.build-before.ensures.used, c.build-before.ensures.size);
+      room = omega (arith, e.size, c.build-left.ensures.used, c.build-left.ensures.size);
     }
 
 pub build-requires : goal.build-requires
@@ -54,11 +55,11 @@ build-requires c =
         l = _;
         r = _;
         others = _;
-        holds = new-sides d _ _ e.owned _ _ c.build-before.ensures.owned _ _ c.build-behind.ensures.owned;
+        holds = new-sides d _ _ e.owned _ _ (puts node _ _ c.args.lower _ _ _ _ c.build-left.ensures.owned (search rules)) _ _ (puts node _ _ c.args.upper _ _ _ _ c.build-right.ensures.owned (search rules));
         low_left = omega (arith, c.requires.ready.low_left, c.requires.ready.low_before);
         low_right = omega (arith, c.requires.ready.low_right, c.requires.ready.low_behind);
       };
-      room = omega (arith, e.size, c.build-before.ensures.used, c.build-before.ensures.size, c.build-behind.ensures.used, c.build-behind.ensures.size);
+      room = omega (arith, e.size, c.build-left.ensures.used, c.build-left.ensures.size, c.build-right.ensures.used, c.build-right.ensures.size);
     }
 
 pub returns : goal.returns
@@ -67,8 +68,8 @@ returns c =
     let e = c.take_apart-root.ensures in
     let fewer = apart-fewer _ _ _ (used_of c.args.pool.now) (used_of c.take_apart-root.new.self) _ _ (middle-first d) (middle-numbered d) e.node e.shared e.last in
     record {
-      owned = rotated-double _ _ _ _ _ c.args.lower c.args.upper c.take_apart-root.result _ _ _ _ _ _ (middle-numbered d) e.owned c.build-before.ensures.owned c.build-behind.ensures.owned c.build.ensures.owned;
-      used = omega (arith, c.build-before.ensures.used, c.build-behind.ensures.used, c.build.ensures.used);
+      owned = rotated-double _ _ _ _ _ c.args.lower c.args.upper c.take_apart-root.result _ _ _ _ _ _ (middle-numbered d) e.owned (puts node _ _ c.args.lower _ _ _ _ c.build-left.ensures.owned (search rules)) (puts node _ _ c.args.upper _ _ _ _ c.build-right.ensures.owned (search rules)) (puts node _ _ c.take_apart-root.result _ _ _ _ c.build.ensures.owned (search rules));
+      used = omega (arith, c.build-left.ensures.used, c.build-right.ensures.used, c.build.ensures.used);
       fresh = c.build.ensures.fresh;
-      size = c.build.ensures.size ∙ c.build-behind.ensures.size ∙ c.build-before.ensures.size ∙ e.size;
+      size = c.build.ensures.size ∙ c.build-right.ensures.size ∙ c.build-left.ensures.size ∙ e.size;
     }

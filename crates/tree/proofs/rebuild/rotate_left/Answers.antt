@@ -1,8 +1,9 @@
-use Rattle.std.proofs.Common.{◌<◌, ◌≤◌, sym, ap, ◌∙◌, arith}
+use Rattle.std.proofs.Common.{rules, ◌<◌, ◌≤◌, sym, ap, ◌∙◌, arith}
 use Rattle.std.proofs.lemmas.Bool.{ltb-false, ltb-true}
 use Rattle.pool.specs.Sound.{used_of}
 use Rattle.pool.specs.declared.node.Node.{Node}
-use Rattle.tree.proofs.Rotating.{apart-fewer, doubled-ready, leans-single, low_right, right-below, right-first, right-inner, right-outer, right-three, right-top, rotated-left-double, rotated-left-single}
+use Rattle.tree.proofs.Rotating.{apart-fewer, doubled-ready, leans-single, low_right, puts, right-below, right-first, right-inner, right-outer, right-three, right-top, rotated-left-double, rotated-left-single}
+use Rattle.tree.specs.Rebuild.{node}
 use Rattle.tree.proofs.rebuild.rotate_left.Goals as goal
 
 pub take_apart-upper-requires : goal.take_apart-upper-requires
@@ -26,12 +27,12 @@ rotate_double-requires c =
     let fewer = apart-fewer _ _ _ (used_of c.args.pool.now) (used_of c.take_apart-upper.new.self) _ _ (right-first d.trees) c.requires.numbered e.node e.shared e.last in
     let inside = c.stored_height-inner.ensures _ (right-inner d.trees _ _ e.owned) in
     record {
-      ready = doubled-ready _ _ _ _ _ _ _ _ _ _ _ _ (right-three d.trees _ _ e.owned) (omega (arith, d.few)) d.low_left d.balanced (omega (arith, d.low-middle)) (omega (arith, d.low_behind)) (omega arith);
+      ready = doubled-ready _ _ _ _ _ _ _ _ _ _ (right-three d.trees _ _ e.owned) (omega (arith, d.few)) d.low_left d.balanced (omega (arith, d.low-middle)) (omega (arith, d.low_behind)) (omega arith);
       room = omega (arith, e.size);
     }
 
-pub build-below-requires : goal.build-below-requires
-build-below-requires c =
+pub build-left-requires : goal.build-left-requires
+build-left-requires c =
     let d = low_right c.requires.ready c.requires.numbered in
     let e = c.take_apart-upper.ensures in
     let fewer = apart-fewer _ _ _ (used_of c.args.pool.now) (used_of c.take_apart-upper.new.self) _ _ (right-first d.trees) c.requires.numbered e.node e.shared e.last in
@@ -59,11 +60,11 @@ build-requires c =
         l = _;
         r = _;
         others = _;
-        holds = right-top d.trees _ _ e.owned _ _ c.build-below.ensures.owned;
+        holds = right-top d.trees _ _ e.owned _ _ (puts node _ _ c.args.root _ _ _ _ c.build-left.ensures.owned (search rules));
         low_left = omega (arith, d.low_left, d.low-middle);
         low_right = omega (arith, d.low_behind);
       };
-      room = omega (arith, e.size, c.build-below.ensures.used, c.build-below.ensures.size);
+      room = omega (arith, e.size, c.build-left.ensures.used, c.build-left.ensures.size);
     }
 
 pub returns-then-is_double : goal.returns-then-is_double
@@ -88,11 +89,11 @@ returns-else-is_double c =
     let e = c.take_apart-upper.ensures in
     let fewer = apart-fewer _ _ _ (used_of c.args.pool.now) (used_of c.take_apart-upper.new.self) _ _ (right-first d.trees) c.requires.numbered e.node e.shared e.last in
     record {
-      owned = rotated-left-single _ _ c.args.root c.take_apart-upper.result _ _ c.requires.numbered e.owned _ _ c.stored_height-outer.ensures c.stored_height-inner.ensures _ _ _ _ outer c.build-below.ensures.owned c.build.ensures.owned;
-      used = omega (arith, c.build-below.ensures.used, c.build.ensures.used);
+      owned = rotated-left-single _ _ c.args.root c.take_apart-upper.result _ _ c.requires.numbered e.owned _ _ c.stored_height-outer.ensures c.stored_height-inner.ensures _ _ _ _ outer (puts node _ _ c.args.root _ _ _ _ c.build-left.ensures.owned (search rules)) (puts node _ _ c.take_apart-upper.result _ _ _ _ c.build.ensures.owned (search rules));
+      used = omega (arith, c.build-left.ensures.used, c.build.ensures.used);
       single = λ nested l r hs h leans one.
           let less = e.last (ap (λ (x : Node). x.count) e.node ∙ one) in
-          omega (arith, c.build-below.ensures.used, c.build.ensures.used);
+          omega (arith, c.build-left.ensures.used, c.build.ensures.used);
       fresh = c.build.ensures.fresh;
-      size = c.build.ensures.size ∙ c.build-below.ensures.size ∙ e.size;
+      size = c.build.ensures.size ∙ c.build-left.ensures.size ∙ e.size;
     }

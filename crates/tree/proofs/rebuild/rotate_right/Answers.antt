@@ -1,7 +1,8 @@
-use Rattle.std.proofs.Common.{◌<◌, ◌≤◌, sym, ◌∙◌, arith}
+use Rattle.std.proofs.Common.{rules, ◌<◌, ◌≤◌, sym, ◌∙◌, arith}
 use Rattle.std.proofs.lemmas.Bool.{ltb-false, ltb-true}
 use Rattle.pool.specs.Sound.{used_of}
-use Rattle.tree.proofs.Rotating.{apart-fewer, doubled-ready, left_below, left-inner, left-outer, left-three, left-top, low_left, rotated-right-double, rotated-right-single}
+use Rattle.tree.proofs.Rotating.{apart-fewer, doubled-ready, left-inner, left-outer, left-three, left-top, left_below, low_left, puts, rotated-right-double, rotated-right-single}
+use Rattle.tree.specs.Rebuild.{node}
 use Rattle.tree.proofs.rebuild.rotate_right.Goals as goal
 
 pub take_apart-lower-requires : goal.take_apart-lower-requires
@@ -24,12 +25,12 @@ rotate_double-requires c =
     let fewer = apart-fewer _ _ _ (used_of c.args.pool.now) (used_of c.take_apart-lower.new.self) _ _ c.requires.ready.holds c.requires.numbered e.node e.shared e.last in
     let inside = c.stored_height-inner.ensures _ (left-inner d.trees _ _ e.owned) in
     record {
-      ready = doubled-ready _ _ _ _ _ _ _ _ _ _ _ _ (left-three d.trees _ _ e.owned) (omega (arith, d.few)) (omega (arith, d.low_before)) d.balanced (omega (arith, d.low-middle)) d.low_right (omega arith);
+      ready = doubled-ready _ _ _ _ _ _ _ _ _ _ (left-three d.trees _ _ e.owned) (omega (arith, d.few)) (omega (arith, d.low_before)) d.balanced (omega (arith, d.low-middle)) d.low_right (omega arith);
       room = omega (arith, e.size);
     }
 
-pub build-below-requires : goal.build-below-requires
-build-below-requires c =
+pub build-right-requires : goal.build-right-requires
+build-right-requires c =
     let d = low_left c.requires.ready c.requires.numbered in
     let e = c.take_apart-lower.ensures in
     let fewer = apart-fewer _ _ _ (used_of c.args.pool.now) (used_of c.take_apart-lower.new.self) _ _ c.requires.ready.holds c.requires.numbered e.node e.shared e.last in
@@ -57,11 +58,11 @@ build-requires c =
         l = _;
         r = _;
         others = _;
-        holds = left-top d.trees _ _ e.owned _ _ c.build-below.ensures.owned;
+        holds = left-top d.trees _ _ e.owned _ _ (puts node _ _ c.args.root _ _ _ _ c.build-right.ensures.owned (search rules));
         low_left = omega (arith, d.low_before);
         low_right = omega (arith, d.low-middle, d.low_right);
       };
-      room = omega (arith, e.size, c.build-below.ensures.used, c.build-below.ensures.size);
+      room = omega (arith, e.size, c.build-right.ensures.used, c.build-right.ensures.size);
     }
 
 pub returns-then-is_double : goal.returns-then-is_double
@@ -82,8 +83,8 @@ returns-else-is_double c =
     let e = c.take_apart-lower.ensures in
     let fewer = apart-fewer _ _ _ (used_of c.args.pool.now) (used_of c.take_apart-lower.new.self) _ _ c.requires.ready.holds c.requires.numbered e.node e.shared e.last in
     record {
-      owned = rotated-right-single _ _ c.args.root c.take_apart-lower.result _ _ c.requires.numbered e.owned _ _ c.stored_height-outer.ensures c.stored_height-inner.ensures _ _ _ _ outer c.build-below.ensures.owned c.build.ensures.owned;
-      used = omega (arith, c.build-below.ensures.used, c.build.ensures.used);
+      owned = rotated-right-single _ _ c.args.root c.take_apart-lower.result _ _ c.requires.numbered e.owned _ _ c.stored_height-outer.ensures c.stored_height-inner.ensures _ _ _ _ outer (puts node _ _ c.args.root _ _ _ _ c.build-right.ensures.owned (search rules)) (puts node _ _ c.take_apart-lower.result _ _ _ _ c.build.ensures.owned (search rules));
+      used = omega (arith, c.build-right.ensures.used, c.build.ensures.used);
       fresh = c.build.ensures.fresh;
-      size = c.build.ensures.size ∙ c.build-below.ensures.size ∙ e.size;
+      size = c.build.ensures.size ∙ c.build-right.ensures.size ∙ e.size;
     }

@@ -1,9 +1,11 @@
-use Rattle.std.proofs.Common.{◌<◌, sym, refl, ◌∙◌, arith}
+use Rattle.std.proofs.Common.{rules, ◌<◌, sym, refl, ◌∙◌, arith}
 use Rattle.pool.specs.Sound.{used_of}
 use Rattle.tree.proofs.Removed.{left-removable, left-shrunk, low-standing, removed-equal, removed-greater, removed-leaf, removed-less, right-removable, right-shrunk, root-leaving}
-use Rattle.tree.proofs.Rotating.{apart-fewer}
+use Rattle.tree.proofs.Rotating.{apart-fewer, puts}
 use Rattle.tree.proofs.Standing.{at_nested, left-falls, left-lower, right-falls, right-lower, standing-height, stood-left, stood-right}
 use Rattle.tree.specs.Insert.{compared}
+use Rattle.tree.proofs.Sides.{worded}
+use Rattle.tree.specs.Rebuild.{balance}
 use Rattle.tree.proofs.removing.+remove.Goals as goal
 
 pub returns-then-n-eq0 : goal.returns-then-n-eq0
@@ -42,7 +44,7 @@ balance-requires g t c =
     let fewer = apart-fewer _ _ _ (used_of c.args.pool.now) (used_of c.take_apart-node.new.self) _ _ d.trees.holds n e.node e.shared e.last in
     let used = c.remove-left.ensures.used _ (stood-left d.trees _ _ e.owned) in
     record {
-      ready = left-shrunk d _ _ e.owned _ _ _ c.remove-left.ensures.owned;
+      ready = worded _ c.take_apart-node.result _ _ _ (left-shrunk d _ _ e.owned _ _ _ c.remove-left.ensures.owned);
       room = omega (arith, fewer, used, d.room, left-lower d.trees d.balanced, e.size, c.remove-left.ensures.size);
     }
 
@@ -54,7 +56,7 @@ balance-requires-in-Greater g t c =
     let fewer = apart-fewer _ _ _ (used_of c.args.pool.now) (used_of c.take_apart-node.new.self) _ _ d.trees.holds n e.node e.shared e.last in
     let used = c.remove-right.ensures.used _ (stood-right d.trees _ _ e.owned) in
     record {
-      ready = right-shrunk d _ _ e.owned _ _ _ c.remove-right.ensures.owned;
+      ready = worded _ c.take_apart-node.result _ _ _ (right-shrunk d _ _ e.owned _ _ _ c.remove-right.ensures.owned);
       room = omega (arith, fewer, used, d.room, right-lower d.trees d.balanced, e.size, c.remove-right.ensures.size);
     }
 
@@ -75,7 +77,7 @@ returns-in-Less g t c =
     let used = c.remove-left.ensures.used _ (stood-left d.trees _ _ e.owned) in
     let less = sym c.in-Less.ensures in
     record {
-      owned = removed-less _ _ _ _ c.take_apart-node.result n e.owned _ _ _ _ less c.remove-left.ensures.owned c.balance.ensures.owned;
+      owned = removed-less _ _ _ _ c.take_apart-node.result n e.owned _ _ _ _ less c.remove-left.ensures.owned (puts balance _ _ c.take_apart-node.result _ _ _ _ c.balance.ensures.owned (search rules));
       used = λ u carries. omega (arith, standing-height d.trees u carries, left-lower d.trees d.balanced, fewer, used, c.balance.ensures.used);
       size = c.balance.ensures.size ∙ c.remove-left.ensures.size ∙ e.size;
     }
@@ -103,7 +105,7 @@ returns-in-Greater g t c =
     let used = c.remove-right.ensures.used _ (stood-right d.trees _ _ e.owned) in
     let greater = sym c.in-Greater.ensures in
     record {
-      owned = removed-greater _ _ _ _ c.take_apart-node.result n e.owned _ _ _ _ greater c.remove-right.ensures.owned c.balance-in-Greater.ensures.owned;
+      owned = removed-greater _ _ _ _ c.take_apart-node.result n e.owned _ _ _ _ greater c.remove-right.ensures.owned (puts balance _ _ c.take_apart-node.result _ _ _ _ c.balance-in-Greater.ensures.owned (search rules));
       used = λ u carries. omega (arith, standing-height d.trees u carries, right-lower d.trees d.balanced, fewer, used, c.balance-in-Greater.ensures.used);
       size = c.balance-in-Greater.ensures.size ∙ c.remove-right.ensures.size ∙ e.size;
     }

@@ -1,5 +1,8 @@
-use Rattle.std.proofs.Common.{◌<◌, refl, ◌∙◌, arith}
+use Rattle.std.proofs.Common.{rules, ◌<◌, refl, ◌∙◌, arith}
 use Rattle.tree.proofs.Removed.{joined-balanceable, joined-both, joined-left, joined-right, right-goes, second-carries}
+use Rattle.tree.proofs.Rotating.{puts}
+use Rattle.tree.proofs.Sides.{worded}
+use Rattle.tree.specs.Rebuild.{balance}
 use Rattle.tree.proofs.removing.join.Goals as goal
 
 pub returns-then-left-eq0 : goal.returns-then-left-eq0
@@ -18,7 +21,7 @@ balance-requires c =
     let f = c.take_first-first.ensures in
     let some : 0 < c.args.right = omega (arith, c.if-right-eq0.false) in
     record {
-      ready = joined-balanceable _ _ _ _ c.take_first-first.result.node _ some f.owned c.requires.ready;
+      ready = worded _ c.take_first-first.result.node _ _ _ (joined-balanceable _ _ _ _ c.take_first-first.result.node _ some f.owned c.requires.ready);
       room = omega (arith, f.used c.requires.ready.r (second-carries _ _ _ _ _ _ c.requires.ready.holds), f.size, c.requires.ready.room);
     }
 
@@ -27,7 +30,7 @@ returns c =
     let f = c.take_first-first.ensures in
     let some : 0 < c.args.right = omega (arith, c.if-right-eq0.false) in
     record {
-      owned = joined-both _ _ _ _ c.take_first-first.result.node _ some f.owned (omega (arith, c.if-left-eq0.false)) _ _ c.balance.ensures.owned;
+      owned = joined-both _ _ _ _ c.take_first-first.result.node _ some f.owned (omega (arith, c.if-left-eq0.false)) _ _ (puts balance _ _ c.take_first-first.result.node _ _ _ _ c.balance.ensures.owned (search rules));
       used = λ r carries. omega (arith, f.used r carries, c.balance.ensures.used);
       within = λ l r hs h. omega (arith, f.used r (second-carries _ _ _ l r hs h), c.balance.ensures.used);
       size = c.balance.ensures.size ∙ f.size;
