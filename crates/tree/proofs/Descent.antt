@@ -11,6 +11,7 @@ use Rattle.pool.specs.declared.node.Node.{Node}
 use Rattle.pool.specs.declared.pool.Pool.{Pool}
 use Rattle.tree.specs.Ends.{at_end}
 use Rattle.tree.specs.Lookup.{by_order}
+use Rattle.tree.specs.Readable.{Readable}
 use Rattle.tree.specs.Shape.{Balanced, height}
 use Rattle.tree.specs.declared.lookup.End.{End}
 use Rattle.tree.specs.declared.lookup.End.TheVariants.{First, Last}
@@ -41,10 +42,10 @@ pub end-carries : (p : Pool) (x : Node) (nested left right : Tree) → CarriesLi
 end-carries p x nested left right ls First = side-carries p x nested left right ls Less
 end-carries p x nested left right ls Last = side-carries p x nested left right ls Greater
 
--- the node m carries a tree lower than t
+-- the node m carries a tree that is lower than t, and can be asked
 pub record Below (p : Pool) (t m : ℕ) : Type 0 where
   pub falls : (node_at (memory_of p) m).height < t
-  pub carried : (u : Tree) × Carries p m u × Balanced u
+  pub readable : Readable p m
 
 module _ (p : Pool) (hs : List Held) (h : Holds p hs) (n : ℕ) (numbered : 0 < n) (x : Node) (is : x ≡ node_at (memory_of p) n) where
   -- the node x carries a fork with its contents, over the trees of its links
@@ -74,23 +75,29 @@ module _ (p : Pool) (hs : List Held) (h : Holds p hs) (n : ℕ) (numbered : 0 < 
         → (node_at (memory_of p) x.right).height < t
     right-falls nested left right ls b = omega (arith, measured, b.0, stored-height p x.right right ls.by_right, ap (λ (z : Node). z.height) is)
 
-    lower : (o : Ordering) → ((u : Tree) × Carries p n u × Balanced u) → Below p t (by_order o x.left 0 x.right)
+    lower : (o : Ordering) → Readable p n → Below p t (by_order o x.left 0 x.right)
     lower Less some =
-        let (nested, left, right, ls, b) = parted Balanced some in
-        record { falls = left-falls nested left right ls b; carried = (left, ls.by_left, b.3) }
+        let (nested, left, right, ls, b) = parted Balanced (some.tree, some.carried, some.balanced) in
+        record {
+          falls = left-falls nested left right ls b;
+          readable = record { owners = hs; held = h; tree = left; carried = ls.by_left; balanced = b.3 };
+        }
     lower Equal some =
-        let (nested, left, right, ls, b) = parted Balanced some in
+        let (nested, left, right, ls, b) = parted Balanced (some.tree, some.carried, some.balanced) in
         record {
           falls = omega (arith, measured, b.0, ap (λ (z : Node). z.height) is, ap (λ (z : Node). z.height) (node-free (memory_of p)));
-          carried = (leaf, none-carries p, tt);
+          readable = record { owners = hs; held = h; tree = leaf; carried = none-carries p; balanced = tt };
         }
     lower Greater some =
-        let (nested, left, right, ls, b) = parted Balanced some in
-        record { falls = right-falls nested left right ls b; carried = (right, ls.by_right, b.4) }
+        let (nested, left, right, ls, b) = parted Balanced (some.tree, some.carried, some.balanced) in
+        record {
+          falls = right-falls nested left right ls b;
+          readable = record { owners = hs; held = h; tree = right; carried = ls.by_right; balanced = b.4 };
+        }
 
-    pub to-side : (o : Ordering) (m : ℕ) → m ≡ by_order o x.left 0 x.right → ((u : Tree) × Carries p n u × Balanced u) → Below p t m
+    pub to-side : (o : Ordering) (m : ℕ) → m ≡ by_order o x.left 0 x.right → Readable p n → Below p t m
     to-side o m on some = subst (Below p t) (sym on) (lower o some)
 
-    pub to-end : (e : End) (m : ℕ) → m ≡ at_end e x.left x.right → ((u : Tree) × Carries p n u × Balanced u) → Below p t m
+    pub to-end : (e : End) (m : ℕ) → m ≡ at_end e x.left x.right → Readable p n → Below p t m
     to-end First = to-side Less
     to-end Last = to-side Greater

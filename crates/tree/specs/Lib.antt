@@ -9,6 +9,7 @@ pub mod Laws
 pub mod Listed
 pub mod Lookup
 pub mod Range
+pub mod Readable
 pub mod Ready
 pub mod Rebuild
 pub mod Removable

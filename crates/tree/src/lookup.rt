@@ -1,14 +1,15 @@
 //! Questions to a tree of ascending keys, answered on the way down.
 
-ghost use Rattle.std.specs.Prelude.{◌≡◌, List, if◌then◌else◌, Some};
-ghost use Rattle.pool.specs.Held.{Carries, Held, Holds};
+ghost use Rattle.std.specs.Prelude.{◌≡◌, if◌then◌else◌, Some};
+ghost use Rattle.pool.specs.Held.{Carries};
 ghost use Rattle.pool.specs.Tree.{Tree};
 ghost use Rattle.std.specs.Option.{option_or};
 ghost use Rattle.std.specs.Ordering.{is_ge};
 ghost use Rattle.tree.specs.Answer.{GivenItem, GivenValue};
 ghost use Rattle.tree.specs.Ends.{at_end};
 ghost use Rattle.tree.specs.Lookup.{after, at_most, find, first, first_after, first_of, item_at, last, last_at_most, last_of};
-ghost use Rattle.tree.specs.Shape.{Ascending, Balanced, items};
+ghost use Rattle.tree.specs.Readable.{Readable};
+ghost use Rattle.tree.specs.Shape.{Ascending, items};
 
 use crate::key::Key;
 use crate::place::{compare_at, is_before, side};
@@ -54,8 +55,7 @@ fn or_at_most<K: Key, V: Value>(
 
 /// The value of the key.
 pub fn find<K: Key, V: Value>(pool: &Pool<'_>, root: u16, key: K) -> Option<V>
-    requires held { (hs : List Held) × Holds pool.now hs }
-    requires carried { (t : Tree) × Carries pool.now root t × Balanced t }
+    requires { Readable pool.now root }
     ensures answered { (t : Tree) → Carries pool.now root t → GivenValue pool.now V.Value.value (find K.Key.key K.Key.order key t) result }
     ensures listed { (t : Tree) → Carries pool.now root t → Ascending K.Key.order (items K.Key.key t) → GivenValue pool.now V.Value.value (item_at K.Key.order key (items K.Key.key t)) result }
 {
@@ -71,8 +71,7 @@ pub fn find<K: Key, V: Value>(pool: &Pool<'_>, root: u16, key: K) -> Option<V>
 
 /// The greatest key that is at most this one, with its value.
 pub fn at_most<K: Key, V: Value>(pool: &Pool<'_>, root: u16, key: K) -> Option<(K, V)>
-    requires held { (hs : List Held) × Holds pool.now hs }
-    requires carried { (t : Tree) × Carries pool.now root t × Balanced t }
+    requires { Readable pool.now root }
     ensures answered { (t : Tree) → Carries pool.now root t → GivenItem pool.now V.Value.value (at_most K.Key.key K.Key.order key t) result }
     ensures listed { (t : Tree) → Carries pool.now root t → Ascending K.Key.order (items K.Key.key t) → GivenItem pool.now V.Value.value (last_at_most K.Key.order key (items K.Key.key t)) result }
 {
@@ -87,8 +86,7 @@ pub fn at_most<K: Key, V: Value>(pool: &Pool<'_>, root: u16, key: K) -> Option<(
 
 /// The least key after this one, with its value.
 pub fn after<K: Key, V: Value>(pool: &Pool<'_>, root: u16, key: K) -> Option<(K, V)>
-    requires held { (hs : List Held) × Holds pool.now hs }
-    requires carried { (t : Tree) × Carries pool.now root t × Balanced t }
+    requires { Readable pool.now root }
     ensures answered { (t : Tree) → Carries pool.now root t → GivenItem pool.now V.Value.value (after K.Key.key K.Key.order key t) result }
     ensures listed { (t : Tree) → Carries pool.now root t → Ascending K.Key.order (items K.Key.key t) → GivenItem pool.now V.Value.value (first_after K.Key.order key (items K.Key.key t)) result }
 {
@@ -124,8 +122,7 @@ impl End {
 
 /// The key at this end, with its value.
 fn outermost<K: Key, V: Value>(pool: &Pool<'_>, root: u16, end: End) -> Option<(K, V)>
-    requires held { (hs : List Held) × Holds pool.now hs }
-    requires carried { (t : Tree) × Carries pool.now root t × Balanced t }
+    requires { Readable pool.now root }
     ensures answered { (t : Tree) → Carries pool.now root t → GivenItem pool.now V.Value.value (at_end end (first K.Key.key K.Key.order t) (last K.Key.key K.Key.order t)) result }
     ensures listed { (t : Tree) → Carries pool.now root t → GivenItem pool.now V.Value.value (at_end end (first_of (items K.Key.key t)) (last_of (items K.Key.key t))) result }
 {
@@ -138,8 +135,7 @@ fn outermost<K: Key, V: Value>(pool: &Pool<'_>, root: u16, end: End) -> Option<(
 
 /// The least key, with its value.
 pub fn first<K: Key, V: Value>(pool: &Pool<'_>, root: u16) -> Option<(K, V)>
-    requires held { (hs : List Held) × Holds pool.now hs }
-    requires carried { (t : Tree) × Carries pool.now root t × Balanced t }
+    requires { Readable pool.now root }
     ensures answered { (t : Tree) → Carries pool.now root t → GivenItem pool.now V.Value.value (first K.Key.key K.Key.order t) result }
     ensures listed { (t : Tree) → Carries pool.now root t → GivenItem pool.now V.Value.value (first_of (items K.Key.key t)) result }
 {
@@ -148,8 +144,7 @@ pub fn first<K: Key, V: Value>(pool: &Pool<'_>, root: u16) -> Option<(K, V)>
 
 /// The greatest key, with its value.
 pub fn last<K: Key, V: Value>(pool: &Pool<'_>, root: u16) -> Option<(K, V)>
-    requires held { (hs : List Held) × Holds pool.now hs }
-    requires carried { (t : Tree) × Carries pool.now root t × Balanced t }
+    requires { Readable pool.now root }
     ensures answered { (t : Tree) → Carries pool.now root t → GivenItem pool.now V.Value.value (last K.Key.key K.Key.order t) result }
     ensures listed { (t : Tree) → Carries pool.now root t → GivenItem pool.now V.Value.value (last_of (items K.Key.key t)) result }
 {

@@ -16,20 +16,20 @@ returns-then-root-eq0 g t c =
 pub after-requires : goal.after-requires
 after-requires g t c κs =
     let n : 0 < c.args.root = omega arith in
-    let b = to-side _ _ c.requires.held.1 _ n _ c.node-node.ensures _ c.decreases Less _ c.side.ensures c.requires.carried in
-    λ ls. (b.falls, (ls.0, (ls.1, (c.requires.held, b.carried))))
+    let b = to-side _ _ c.requires.held _ n _ c.node-node.ensures _ c.decreases Less _ c.side.ensures c.requires in
+    λ ls. (b.falls, (ls.0, (ls.1, b.readable)))
 
 pub after-requires-else-is_before : goal.after-requires-else-is_before
 after-requires-else-is_before g t c κs =
     let n : 0 < c.args.root = omega arith in
-    let b = to-side _ _ c.requires.held.1 _ n _ c.node-node.ensures _ c.decreases Greater _ c.side-else-is_before.ensures c.requires.carried in
-    λ ls. (b.falls, (ls.0, (ls.1, (c.requires.held, b.carried))))
+    let b = to-side _ _ c.requires.held _ n _ c.node-node.ensures _ c.decreases Greater _ c.side-else-is_before.ensures c.requires in
+    λ ls. (b.falls, (ls.0, (ls.1, b.readable)))
 
 pub returns-then-is_before : goal.returns-then-is_before
 returns-then-is_before g t c =
     let n : 0 < c.args.root = omega arith in
     let P : Option (Item g.row.K.Denot) → Type 0 = λ o. GivenItem c.args.pool.now g.V.Value.value o c.or_item.result in
-    let a = after-before _ _ c.requires.held.1 _ n _ c.node-node.ensures g.K.Key.key g.K.Key.order P c.args.key _ refl (sym c.is_before.ensures ∙ c.if-is_before.true) (λ nested left right ls.
+    let a = after-before _ _ c.requires.held _ n _ c.node-node.ensures g.K.Key.key g.K.Key.order P c.args.key _ refl (sym c.is_before.ensures ∙ c.if-is_before.true) (λ nested left right ls.
     either-given _ g.K.Key.key g.V.Value.value _ _ _ _ ls (after g.K.Key.key g.K.Key.order c.args.key left) c.after.result c.or_item.result c.or_item.ensures
     (c.after.ensures.answered left (side-carries _ _ _ _ _ ls Less _ c.side.ensures))) in
     record { answered = a; listed = after-listed (kind_of g.met.K.Key) _ _ P c.args.key a }
@@ -38,6 +38,6 @@ pub returns-else-is_before : goal.returns-else-is_before
 returns-else-is_before g t c =
     let n : 0 < c.args.root = omega arith in
     let P : Option (Item g.row.K.Denot) → Type 0 = λ o. GivenItem c.args.pool.now g.V.Value.value o c.after-else-is_before.result in
-    let a = after-past _ _ c.requires.held.1 _ n _ c.node-node.ensures g.K.Key.key g.K.Key.order P c.args.key _ refl (sym c.is_before.ensures ∙ c.if-is_before.false) (λ nested left right ls.
+    let a = after-past _ _ c.requires.held _ n _ c.node-node.ensures g.K.Key.key g.K.Key.order P c.args.key _ refl (sym c.is_before.ensures ∙ c.if-is_before.false) (λ nested left right ls.
     c.after-else-is_before.ensures.answered right (side-carries _ _ _ _ _ ls Greater _ c.side-else-is_before.ensures)) in
     record { answered = a; listed = after-listed (kind_of g.met.K.Key) _ _ P c.args.key a }

@@ -15,14 +15,14 @@ returns-then-root-eq0 g t c =
 pub at_most-found-requires : goal.at_most-found-requires
 at_most-found-requires g t c κs =
     let n : 0 < c.args.root = omega arith in
-    let b = to-side _ _ c.requires.held.1 _ n _ c.node-node.ensures _ c.decreases c.compare_at-ordering.result _ c.side.ensures c.requires.carried in
-    λ ls. (b.falls, (ls.0, (ls.1, (c.requires.held, b.carried))))
+    let b = to-side _ _ c.requires.held _ n _ c.node-node.ensures _ c.decreases c.compare_at-ordering.result _ c.side.ensures c.requires in
+    λ ls. (b.falls, (ls.0, (ls.1, b.readable)))
 
 pub returns : goal.returns
 returns g t c =
     let n : 0 < c.args.root = omega arith in
     let P : Option (Item g.row.K.Denot) → Type 0 = λ o. GivenItem c.args.pool.now g.V.Value.value o c.or_at_most.result in
-    let a = at_most-by _ _ c.requires.held.1 _ n _ c.node-node.ensures g.K.Key.key g.K.Key.order P c.args.key c.compare_at-ordering.result (sym c.compare_at-ordering.ensures)
+    let a = at_most-by _ _ c.requires.held _ n _ c.node-node.ensures g.K.Key.key g.K.Key.order P c.args.key c.compare_at-ordering.result (sym c.compare_at-ordering.ensures)
     (at-most-given _ g.K.Key.key g.K.Key.order g.V.Value.value c.node-node.result c.args.key _ c.at_most-found.result c.or_at_most.result c.at_most-found.ensures.answered
     c.compare_at-ordering.result c.side.ensures c.or_at_most.ensures) in
     record { answered = a; listed = at_most-listed (kind_of g.met.K.Key) _ _ P c.args.key a }

@@ -15,14 +15,14 @@ returns-then-root-eq0 g t c =
 pub find-requires : goal.find-requires
 find-requires g t c κs =
     let n : 0 < c.args.root = omega arith in
-    let b = to-side _ _ c.requires.held.1 _ n _ c.node-node.ensures _ c.decreases _ _ c.side.ensures c.requires.carried in
-    λ ls. (b.falls, (ls.0, (ls.1, (c.requires.held, b.carried))))
+    let b = to-side _ _ c.requires.held _ n _ c.node-node.ensures _ c.decreases _ _ c.side.ensures c.requires in
+    λ ls. (b.falls, (ls.0, (ls.1, b.readable)))
 
 pub returns-in_default : goal.returns-in_default
 returns-in_default g t c =
     let n : 0 < c.args.root = omega arith in
     let P : Option (Item g.row.K.Denot) → Type 0 = λ o. GivenValue c.args.pool.now g.V.Value.value o c.find.result in
-    let a = find-side _ _ c.requires.held.1 _ n _ c.node-node.ensures g.K.Key.key g.K.Key.order P c.args.key _ c.in_default.not-Equal c.compare_at.ensures _ c.side.ensures c.find.ensures.answered in
+    let a = find-side _ _ c.requires.held _ n _ c.node-node.ensures g.K.Key.key g.K.Key.order P c.args.key _ c.in_default.not-Equal c.compare_at.ensures _ c.side.ensures c.find.ensures.answered in
     record { answered = a; listed = find-listed (kind_of g.met.K.Key) _ _ P c.args.key a }
 
 pub returns-in-Equal : goal.returns-in-Equal
@@ -30,6 +30,6 @@ returns-in-Equal g t c =
     let n : 0 < c.args.root = omega arith in
     let P : Option (Item g.row.K.Denot) → Type 0 = λ o. GivenValue c.args.pool.now g.V.Value.value o (Some c.value_of.result) in
     let e = compared c.compare_at.result _ Equal c.compare_at.ensures c.in-Equal.is in
-    let a = find-by _ _ c.requires.held.1 _ n _ c.node-node.ensures g.K.Key.key g.K.Key.order P c.args.key Equal e (λ nested left right ls.
+    let a = find-by _ _ c.requires.held _ n _ c.node-node.ensures g.K.Key.key g.K.Key.order P c.args.key Equal e (λ nested left right ls.
     value-given _ g.K.Key.key g.V.Value.value _ _ _ _ ls _ c.value_of.ensures) in
     record { answered = a; listed = find-listed (kind_of g.met.K.Key) _ _ P c.args.key a }

@@ -17,14 +17,14 @@ returns-then-root-eq0 g t c =
 pub outermost-requires : goal.outermost-requires
 outermost-requires g t c κs =
     let n : 0 < c.args.root = omega arith in
-    let b = to-end _ _ c.requires.held.1 _ n _ c.node-node.ensures _ c.decreases c.args.end _ c.side.ensures c.requires.carried in
-    λ ls. (b.falls, (ls.0, (ls.1, (c.requires.held, b.carried))))
+    let b = to-end _ _ c.requires.held _ n _ c.node-node.ensures _ c.decreases c.args.end _ c.side.ensures c.requires in
+    λ ls. (b.falls, (ls.0, (ls.1, b.readable)))
 
 pub returns : goal.returns
 returns g t c =
     let n : 0 < c.args.root = omega arith in
     let P : Option (Item g.row.K.Denot) → Type 0 = λ o. GivenItem c.args.pool.now g.V.Value.value o c.or_item.result in
-    let a = outermost-by _ _ c.requires.held.1 _ n _ c.node-node.ensures g.K.Key.key g.K.Key.order P c.args.end (λ nested left right ls.
+    let a = outermost-by _ _ c.requires.held _ n _ c.node-node.ensures g.K.Key.key g.K.Key.order P c.args.end (λ nested left right ls.
     either-given _ g.K.Key.key g.V.Value.value _ _ _ _ ls (at_end c.args.end (first g.K.Key.key g.K.Key.order left) (last g.K.Key.key g.K.Key.order right)) c.outermost.result c.or_item.result c.or_item.ensures
     (outermost-given c.args.pool.now g.K.Key.key g.K.Key.order c.node-node.result nested left right ls (λ o. GivenItem c.args.pool.now g.V.Value.value o c.outermost.result) c.args.end _ c.side.ensures c.outermost.ensures.answered)) in
     record { answered = a; listed = outermost-listed (kind_of g.met.K.Key) _ _ P c.args.end a }
