@@ -1,6 +1,7 @@
 pub mod Answer
 pub mod Append
 pub mod Ends
+pub mod Grown
 pub mod Heights
 pub mod Insert
 pub mod Insertable

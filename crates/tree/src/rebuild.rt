@@ -6,6 +6,7 @@ ghost use Rattle.pool.specs.Node.{node_at};
 ghost use Rattle.pool.specs.Sound.{memory_of, used_of};
 ghost use Rattle.pool.specs.Tree.{Tree};
 ghost use Rattle.tree.specs.Append.{LeansRight};
+ghost use Rattle.tree.specs.Grown.{Grown};
 ghost use Rattle.tree.specs.Ready.{Balanceable, Buildable, Doubled, sides, three_sides};
 ghost use Rattle.tree.specs.Rebuild.{balance as balanced, node, rotate_double, rotate_left, rotate_right};
 ghost use Rattle.tree.specs.Shape.{height};
@@ -50,9 +51,7 @@ fn rotate_double(pool: &mut Pool<'_>, lower: Node, middle: u16, upper: Node) -> 
     requires ready { Doubled pool.old lower upper middle }
     requires room { used_of pool.old + 3 ≤ length (memory_of pool.old) }
     ensures owned { (inner nested l m r : Tree) (hs : List Held) → Holds pool.old (three_sides lower upper middle inner nested l m r hs) → Holds pool.new (held result (rotate_double lower.key lower.word inner upper.key upper.word nested l m r) ∷ hs) }
-    ensures used { used_of pool.new ≤ used_of pool.old + 3 }
-    ensures fresh { (node_at (memory_of pool.new) result).count ≡ 1 }
-    ensures size { length (memory_of pool.new) ≡ length (memory_of pool.old) }
+    ensures grown { Grown pool.old pool.new 3 result }
 {
     let root = pool.take_apart(middle);
     let left = build(
@@ -92,9 +91,7 @@ fn rotate_right(pool: &mut Pool<'_>, root: Node) -> u16
     requires numbered { 0 < root.left }
     requires room { used_of pool.old + 3 ≤ length (memory_of pool.old) }
     ensures owned { (nested l r : Tree) (hs : List Held) → Holds pool.old (sides root nested l r hs) → Holds pool.new (held result (rotate_right root.key root.word nested l r) ∷ hs) }
-    ensures used { used_of pool.new ≤ used_of pool.old + 3 }
-    ensures fresh { (node_at (memory_of pool.new) result).count ≡ 1 }
-    ensures size { length (memory_of pool.new) ≡ length (memory_of pool.old) }
+    ensures grown { Grown pool.old pool.new 3 result }
 {
     let lower = pool.take_apart(root.left);
     let outer = stored_height(pool, lower.left);
@@ -119,10 +116,8 @@ fn rotate_left(pool: &mut Pool<'_>, root: Node) -> u16
     requires numbered { 0 < root.right }
     requires room { used_of pool.old + 3 ≤ length (memory_of pool.old) }
     ensures owned { (nested l r : Tree) (hs : List Held) → Holds pool.old (sides root nested l r hs) → Holds pool.new (held result (rotate_left root.key root.word nested l r) ∷ hs) }
-    ensures used { used_of pool.new ≤ used_of pool.old + 3 }
+    ensures grown { Grown pool.old pool.new 3 result }
     ensures single { (nested l r : Tree) (hs : List Held) → Holds pool.old (sides root nested l r hs) → LeansRight r → (node_at (memory_of pool.old) root.right).count ≡ 1 → used_of pool.new ≡ used_of pool.old + 1 }
-    ensures fresh { (node_at (memory_of pool.new) result).count ≡ 1 }
-    ensures size { length (memory_of pool.new) ≡ length (memory_of pool.old) }
 {
     let upper = pool.take_apart(root.right);
     let outer = stored_height(pool, upper.right);
@@ -154,11 +149,9 @@ pub(crate) fn balance(pool: &mut Pool<'_>, root: Node) -> u16
     requires ready { Balanceable pool.old root }
     requires room { used_of pool.old + 3 ≤ length (memory_of pool.old) }
     ensures owned { (nested l r : Tree) (hs : List Held) → Holds pool.old (sides root nested l r hs) → Holds pool.new (held result (balanced root.key root.word nested l r) ∷ hs) }
-    ensures used { used_of pool.new ≤ used_of pool.old + 3 }
+    ensures grown { Grown pool.old pool.new 3 result }
     ensures level { (nested l r : Tree) (hs : List Held) → Holds pool.old (sides root nested l r hs) → height l ≤ height r + 1 → height r ≤ height l + 1 → used_of pool.new ≡ used_of pool.old + 1 }
     ensures single { (nested l r : Tree) (hs : List Held) → Holds pool.old (sides root nested l r hs) → height l + 1 < height r → LeansRight r → (node_at (memory_of pool.old) root.right).count ≡ 1 → used_of pool.new ≡ used_of pool.old + 1 }
-    ensures fresh { (node_at (memory_of pool.new) result).count ≡ 1 }
-    ensures size { length (memory_of pool.new) ≡ length (memory_of pool.old) }
 {
     let before = stored_height(pool, root.left);
     let behind = stored_height(pool, root.right);

@@ -62,7 +62,7 @@ returns-then-is_too_high c =
     let n = c.stored_height-behind.ensures in
     record {
       owned = balanced_left _ _ c.args.root _ _ _ _ m n test _ c.rotate_right.ensures.owned;
-      used = c.rotate_right.ensures.used;
+      grown = c.rotate_right.ensures.grown;
       level = λ nested l r hs h low high.
           let x = m l (left-carries _ c.args.root _ c.args.root.right nested l r hs h) in
           let y = n r (right-carries _ c.args.root c.args.root.left _ nested l r hs h) in
@@ -71,8 +71,6 @@ returns-then-is_too_high c =
           let x = m l (left-carries _ c.args.root _ c.args.root.right nested l r hs h) in
           let y = n r (right-carries _ c.args.root c.args.root.left _ nested l r hs h) in
           absurd (omega (arith, test));
-      fresh = c.rotate_right.ensures.fresh;
-      size = c.rotate_right.ensures.size;
     }
 
 pub returns-then-is_too_high-2 : goal.returns-then-is_too_high-2
@@ -83,14 +81,12 @@ returns-then-is_too_high-2 c =
     let n = c.stored_height-behind.ensures in
     record {
       owned = balanced_right _ _ c.args.root _ _ _ _ m n low test _ c.rotate_left.ensures.owned;
-      used = c.rotate_left.ensures.used;
+      grown = c.rotate_left.ensures.grown;
       level = λ nested l r hs h by_left by_right.
           let x = m l (left-carries _ c.args.root _ c.args.root.right nested l r hs h) in
           let y = n r (right-carries _ c.args.root c.args.root.left _ nested l r hs h) in
           absurd (omega (arith, test));
       single = λ nested l r hs h high. c.rotate_left.ensures.single nested l r hs h;
-      fresh = c.rotate_left.ensures.fresh;
-      size = c.rotate_left.ensures.size;
     }
 
 pub returns-else-is_too_high-2 : goal.returns-else-is_too_high-2
@@ -101,9 +97,7 @@ returns-else-is_too_high-2 c =
     let n = c.stored_height-behind.ensures in
     record {
       owned = balanced-level _ _ c.args.root _ _ _ _ m n low high _ c.build.ensures.owned;
-      used = omega (arith, c.build.ensures.used);
+      grown = record { used = omega (arith, c.build.ensures.used); fresh = c.build.ensures.fresh; size = c.build.ensures.size };
       level = λ nested l r hs h by_left by_right. c.build.ensures.used;
       single = λ nested l r hs h high leans one. c.build.ensures.used;
-      fresh = c.build.ensures.fresh;
-      size = c.build.ensures.size;
     }

@@ -75,11 +75,9 @@ returns-then-is_double c =
     let fewer = apart-fewer _ _ _ (used_of c.args.pool.now) (used_of c.take_apart-upper.new.self) _ _ (right-first d.trees) c.requires.numbered e.node e.shared e.last in
     record {
       owned = rotated-left-double _ _ c.args.root c.take_apart-upper.result _ _ c.requires.numbered e.owned _ _ c.stored_height-outer.ensures c.stored_height-inner.ensures _ _ inner c.rotate_double.ensures.owned;
-      used = omega (arith, c.rotate_double.ensures.used);
+      grown = record { used = omega (arith, c.rotate_double.ensures.grown.used); fresh = c.rotate_double.ensures.grown.fresh; size = c.rotate_double.ensures.grown.size ∙ e.size };
       single = λ nested l r hs h leans one.
           absurd (omega (arith, inner, leans-single _ _ c.args.root c.take_apart-upper.result _ _ c.requires.numbered e.owned _ _ c.stored_height-outer.ensures c.stored_height-inner.ensures nested l r hs h leans));
-      fresh = c.rotate_double.ensures.fresh;
-      size = c.rotate_double.ensures.size ∙ e.size;
     }
 
 pub returns-else-is_double : goal.returns-else-is_double
@@ -90,10 +88,8 @@ returns-else-is_double c =
     let fewer = apart-fewer _ _ _ (used_of c.args.pool.now) (used_of c.take_apart-upper.new.self) _ _ (right-first d.trees) c.requires.numbered e.node e.shared e.last in
     record {
       owned = rotated-left-single _ _ c.args.root c.take_apart-upper.result _ _ c.requires.numbered e.owned _ _ c.stored_height-outer.ensures c.stored_height-inner.ensures _ _ _ _ outer (puts node _ _ c.args.root _ _ _ _ c.build-left.ensures.owned (search rules)) (puts node _ _ c.take_apart-upper.result _ _ _ _ c.build.ensures.owned (search rules));
-      used = omega (arith, c.build-left.ensures.used, c.build.ensures.used);
+      grown = record { used = omega (arith, c.build-left.ensures.used, c.build.ensures.used); fresh = c.build.ensures.fresh; size = c.build.ensures.size ∙ c.build-left.ensures.size ∙ e.size };
       single = λ nested l r hs h leans one.
           let less = e.last (ap (λ (x : Node). x.count) e.node ∙ one) in
           omega (arith, c.build-left.ensures.used, c.build.ensures.used);
-      fresh = c.build.ensures.fresh;
-      size = c.build.ensures.size ∙ c.build-left.ensures.size ∙ e.size;
     }

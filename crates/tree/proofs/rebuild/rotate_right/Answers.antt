@@ -72,9 +72,7 @@ returns-then-is_double c =
     let fewer = apart-fewer _ _ _ (used_of c.args.pool.now) (used_of c.take_apart-lower.new.self) _ _ c.requires.ready.holds c.requires.numbered e.node e.shared e.last in
     record {
       owned = rotated-right-double _ _ c.args.root c.take_apart-lower.result _ _ c.requires.numbered e.owned _ _ c.stored_height-outer.ensures c.stored_height-inner.ensures _ _ inner c.rotate_double.ensures.owned;
-      used = omega (arith, c.rotate_double.ensures.used);
-      fresh = c.rotate_double.ensures.fresh;
-      size = c.rotate_double.ensures.size ∙ e.size;
+      grown = record { used = omega (arith, c.rotate_double.ensures.grown.used); fresh = c.rotate_double.ensures.grown.fresh; size = c.rotate_double.ensures.grown.size ∙ e.size };
     }
 
 pub returns-else-is_double : goal.returns-else-is_double
@@ -84,7 +82,5 @@ returns-else-is_double c =
     let fewer = apart-fewer _ _ _ (used_of c.args.pool.now) (used_of c.take_apart-lower.new.self) _ _ c.requires.ready.holds c.requires.numbered e.node e.shared e.last in
     record {
       owned = rotated-right-single _ _ c.args.root c.take_apart-lower.result _ _ c.requires.numbered e.owned _ _ c.stored_height-outer.ensures c.stored_height-inner.ensures _ _ _ _ outer (puts node _ _ c.args.root _ _ _ _ c.build-right.ensures.owned (search rules)) (puts node _ _ c.take_apart-lower.result _ _ _ _ c.build.ensures.owned (search rules));
-      used = omega (arith, c.build-right.ensures.used, c.build.ensures.used);
-      fresh = c.build.ensures.fresh;
-      size = c.build.ensures.size ∙ c.build-right.ensures.size ∙ e.size;
+      grown = record { used = omega (arith, c.build-right.ensures.used, c.build.ensures.used); fresh = c.build.ensures.fresh; size = c.build.ensures.size ∙ c.build-right.ensures.size ∙ e.size };
     }
