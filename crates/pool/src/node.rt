@@ -10,7 +10,8 @@ pub struct Words {
     pub low: u64,
 }
 
-/// A node of 40 bytes. A link is the number of another node, and 0 is no link.
+/// A node of 40 bytes. A link is the number of another node, and 0 is no link: an `Option` of a number takes twice the
+/// bytes, and the node would have 48.
 #[derive(Clone, Copy, Default)]
 pub struct Node {
     pub key: Words,
@@ -34,14 +35,9 @@ impl Node {
         Node {
             key: Words {
                 high: 0,
-                low: next as u64,
+                low: u64::from(next),
             },
-            word: 0,
-            left: 0,
-            right: 0,
-            nested: 0,
-            height: 0,
-            count: 0,
+            ..Node::default()
         }
     }
 

@@ -7,6 +7,14 @@ ghost use Rattle.pool.specs.Sound.{memory_of, used_of};
 use crate::node::Node;
 use crate::pool::Pool;
 
+/// Nodes are numbered from 1.
+fn place(n: u16) -> usize
+    requires { 0 < n }
+    ensures { result ≡ n - 1 }
+{
+    usize::from(n) - 1
+}
+
 impl Pool<'_> {
     /// Reads the node n, free or in use.
     pub(crate) fn read(&self, n: u16) -> Node
@@ -14,7 +22,7 @@ impl Pool<'_> {
         requires within { n ≤ length (memory_of self.now) }
         ensures { result ≡ node_at (memory_of self.now) n }
     {
-        self.nodes[n as usize - 1]
+        self.nodes[place(n)]
     }
 
     /// Writes the node n.
@@ -26,7 +34,7 @@ impl Pool<'_> {
         ensures used { used_of self.new ≡ used_of self.old }
         ensures size { length (memory_of self.new) ≡ length (memory_of self.old) }
     {
-        self.nodes[n as usize - 1] = node;
+        self.nodes[place(n)] = node;
     }
 
     /// Counts one owner more of the node n.
