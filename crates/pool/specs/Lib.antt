@@ -5,3 +5,4 @@ pub mod FreeList
 pub mod Sound
 pub mod Held
 pub mod Reached
+pub mod Puts

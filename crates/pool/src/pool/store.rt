@@ -2,6 +2,7 @@
 
 ghost use Rattle.std.specs.Prelude.{◌≡◌, ◌+◌, ◌-◌, ◌^◌, ◌<◌, ◌≤◌, length, slice_set};
 ghost use Rattle.pool.specs.Node.{free_node, node_at, with_count};
+ghost use Rattle.pool.specs.Puts.{Puts};
 ghost use Rattle.pool.specs.Sound.{memory_of, used_of};
 
 use crate::node::Node;
@@ -29,10 +30,7 @@ impl Pool<'_> {
     pub(crate) fn put(&mut self, n: u16, node: Node)
         requires numbered { 0 < n }
         requires within { n ≤ length (memory_of self.old) }
-        ensures memory { memory_of self.new ≡ slice_set (memory_of self.old) (n - 1) node }
-        ensures free { self.new.free ≡ self.old.free }
-        ensures used { used_of self.new ≡ used_of self.old }
-        ensures size { length (memory_of self.new) ≡ length (memory_of self.old) }
+        ensures { Puts self.old n node self.new }
     {
         self.nodes[place(n)] = node;
     }
@@ -42,10 +40,7 @@ impl Pool<'_> {
         requires numbered { 0 < n }
         requires within { n ≤ length (memory_of self.old) }
         requires fits { (node_at (memory_of self.old) n).count + 1 < 2 ^ 32 }
-        ensures memory { memory_of self.new ≡ slice_set (memory_of self.old) (n - 1) (with_count (node_at (memory_of self.old) n) ((node_at (memory_of self.old) n).count + 1)) }
-        ensures free { self.new.free ≡ self.old.free }
-        ensures used { used_of self.new ≡ used_of self.old }
-        ensures size { length (memory_of self.new) ≡ length (memory_of self.old) }
+        ensures { Puts self.old n (with_count (node_at (memory_of self.old) n) ((node_at (memory_of self.old) n).count + 1)) self.new }
     {
         let node = self.read(n);
         self.put(n, node.with_count(node.count + 1));
@@ -56,10 +51,7 @@ impl Pool<'_> {
         requires numbered { 0 < n }
         requires within { n ≤ length (memory_of self.old) }
         requires some { 0 < (node_at (memory_of self.old) n).count }
-        ensures memory { memory_of self.new ≡ slice_set (memory_of self.old) (n - 1) (with_count (node_at (memory_of self.old) n) ((node_at (memory_of self.old) n).count - 1)) }
-        ensures free { self.new.free ≡ self.old.free }
-        ensures used { used_of self.new ≡ used_of self.old }
-        ensures size { length (memory_of self.new) ≡ length (memory_of self.old) }
+        ensures { Puts self.old n (with_count (node_at (memory_of self.old) n) ((node_at (memory_of self.old) n).count - 1)) self.new }
     {
         let node = self.read(n);
         self.put(n, node.with_count(node.count - 1));
