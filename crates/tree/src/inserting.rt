@@ -71,7 +71,7 @@ pub fn insert<K: Key, V: Value>(pool: &mut Pool<'_>, n: u16, key: K, value: V) -
         return build(pool, entry(key, value));
     }
     let node = pool.take_apart(n);
-    match compare_at::<K>(key, node) {
+    match compare_at(key, node) {
         Ordering::Less => {
             let left = insert(pool, node.left, key, value);
             balance(pool, Node { left, ..node })

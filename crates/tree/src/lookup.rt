@@ -28,14 +28,14 @@ fn value_of<V: Value>(node: Node) -> V
 fn item_of<K: Key, V: Value>(node: Node) -> (K, V)
     ensures { result ≡ (K.Key.key node.key, V.Value.value node.word node.nested) }
 {
-    (K::from_words(node.key), value_of::<V>(node))
+    (K::from_words(node.key), value_of(node))
 }
 
 /// What was found on a side of the node, or else the node's own key and value.
 fn or_item<K: Key, V: Value>(found: Option<(K, V)>, node: Node) -> Option<(K, V)>
     ensures { result ≡ option_or found (Some (K.Key.key node.key, V.Value.value node.word node.nested)) }
 {
-    found.or(Some(item_of::<K, V>(node)))
+    found.or(Some(item_of(node)))
 }
 
 /// What was found on the key's side of the node, or else the node's own key and value where its key is at most that key.
@@ -47,7 +47,7 @@ fn or_at_most<K: Key, V: Value>(
     ensures { result ≡ (if is_ge ordering then option_or found (Some (K.Key.key node.key, V.Value.value node.word node.nested)) else found) }
 {
     if ordering.is_ge() {
-        or_item::<K, V>(found, node)
+        or_item(found, node)
     } else {
         found
     }
@@ -63,9 +63,9 @@ pub fn find<K: Key, V: Value>(pool: &Pool<'_>, root: u16, key: K) -> Option<V>
         return None;
     }
     let node = pool.node(root);
-    match compare_at::<K>(key, node) {
-        Ordering::Equal => Some(value_of::<V>(node)),
-        unequal => find::<K, V>(pool, side(node, unequal), key),
+    match compare_at(key, node) {
+        Ordering::Equal => Some(value_of(node)),
+        unequal => find(pool, side(node, unequal), key),
     }
 }
 
@@ -79,9 +79,9 @@ pub fn at_most<K: Key, V: Value>(pool: &Pool<'_>, root: u16, key: K) -> Option<(
         return None;
     }
     let node = pool.node(root);
-    let ordering = compare_at::<K>(key, node);
-    let found = at_most::<K, V>(pool, side(node, ordering), key);
-    or_at_most::<K, V>(found, node, ordering)
+    let ordering = compare_at(key, node);
+    let found = at_most(pool, side(node, ordering), key);
+    or_at_most(found, node, ordering)
 }
 
 /// The least key after this one, with its value.
@@ -94,10 +94,10 @@ pub fn after<K: Key, V: Value>(pool: &Pool<'_>, root: u16, key: K) -> Option<(K,
         return None;
     }
     let node = pool.node(root);
-    if is_before::<K>(key, node) {
-        or_item::<K, V>(after::<K, V>(pool, side(node, Ordering::Less), key), node)
+    if is_before(key, node) {
+        or_item(after(pool, side(node, Ordering::Less), key), node)
     } else {
-        after::<K, V>(pool, side(node, Ordering::Greater), key)
+        after(pool, side(node, Ordering::Greater), key)
     }
 }
 
@@ -130,7 +130,7 @@ fn outermost<K: Key, V: Value>(pool: &Pool<'_>, root: u16, end: End) -> Option<(
         return None;
     }
     let node = pool.node(root);
-    or_item::<K, V>(outermost::<K, V>(pool, end.side(node), end), node)
+    or_item(outermost(pool, end.side(node), end), node)
 }
 
 /// The least key, with its value.
@@ -139,7 +139,7 @@ pub fn first<K: Key, V: Value>(pool: &Pool<'_>, root: u16) -> Option<(K, V)>
     ensures answered { (t : Tree) → Carries pool.now root t → GivenItem pool.now V.Value.value (first K.Key.key K.Key.order t) result }
     ensures listed { (t : Tree) → Carries pool.now root t → GivenItem pool.now V.Value.value (first_of (items K.Key.key t)) result }
 {
-    outermost::<K, V>(pool, root, End::First)
+    outermost(pool, root, End::First)
 }
 
 /// The greatest key, with its value.
@@ -148,5 +148,5 @@ pub fn last<K: Key, V: Value>(pool: &Pool<'_>, root: u16) -> Option<(K, V)>
     ensures answered { (t : Tree) → Carries pool.now root t → GivenItem pool.now V.Value.value (last K.Key.key K.Key.order t) result }
     ensures listed { (t : Tree) → Carries pool.now root t → GivenItem pool.now V.Value.value (last_of (items K.Key.key t)) result }
 {
-    outermost::<K, V>(pool, root, End::Last)
+    outermost(pool, root, End::Last)
 }

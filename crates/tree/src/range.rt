@@ -56,11 +56,7 @@ fn own<K: Key>(node: Node, low: K, high: K) -> Total
 fn left_from<K: Key>(node: Node, low: K) -> u16
     ensures { result ≡ (if is_lt (K.Key.order low (K.Key.key node.key)) then node.left else 0) }
 {
-    if is_before::<K>(low, node) {
-        node.left
-    } else {
-        0
-    }
+    if is_before(low, node) { node.left } else { 0 }
 }
 
 /// The right link, or 0 where every key of the right side is past `high`.
@@ -87,7 +83,7 @@ pub fn total_between<K: Key>(pool: &Pool<'_>, root: u16, low: K, high: K) -> Tot
         return Total::default();
     }
     let node = pool.node(root);
-    let below = total_between::<K>(pool, left_from::<K>(node, low), low, high);
-    let above = total_between::<K>(pool, right_to::<K>(node, high), low, high);
-    below + (own::<K>(node, low, high) + above)
+    let below = total_between(pool, left_from(node, low), low, high);
+    let above = total_between(pool, right_to(node, high), low, high);
+    below + (own(node, low, high) + above)
 }

@@ -109,7 +109,7 @@ pub fn remove<K: Key>(pool: &mut Pool<'_>, n: u16, key: K) -> u16
         return 0;
     }
     let node = pool.take_apart(n);
-    match compare_at::<K>(key, node) {
+    match compare_at(key, node) {
         Ordering::Less => {
             let left = remove(pool, node.left, key);
             balance(pool, Node { left, ..node })
