@@ -55,8 +55,8 @@ fn or_at_most<K: Key, V: Value>(
 pub fn find<K: Key, V: Value>(pool: &Pool<'_>, root: u16, key: K) -> Option<V>
     requires held { (hs : List Held) × Holds pool.now hs }
     requires carried { (t : Tree) × Carries pool.now root t × Balanced t }
-    ensures answered { (t : Tree) → Carries pool.now root t → GivenValue pool.now V.Value.value (find K.Key.key K.Key.order key t) result }
-    ensures listed { (t : Tree) → Carries pool.now root t → Ascending K.Key.order (items K.Key.key t) → GivenValue pool.now V.Value.value (item_at K.Key.order key (items K.Key.key t)) result }
+    ensures answered { (t : Tree) → Carries pool.now root t → GivenValue pool.now V.Value.value (find K.Key.key K.cmp key t) result }
+    ensures listed { (t : Tree) → Carries pool.now root t → Ascending K.cmp (items K.Key.key t) → GivenValue pool.now V.Value.value (item_at K.cmp key (items K.Key.key t)) result }
 {
     if root == 0 {
         return None;
@@ -72,8 +72,8 @@ pub fn find<K: Key, V: Value>(pool: &Pool<'_>, root: u16, key: K) -> Option<V>
 pub fn at_most<K: Key, V: Value>(pool: &Pool<'_>, root: u16, key: K) -> Option<(K, V)>
     requires held { (hs : List Held) × Holds pool.now hs }
     requires carried { (t : Tree) × Carries pool.now root t × Balanced t }
-    ensures answered { (t : Tree) → Carries pool.now root t → GivenItem pool.now V.Value.value (at_most K.Key.key K.Key.order key t) result }
-    ensures listed { (t : Tree) → Carries pool.now root t → Ascending K.Key.order (items K.Key.key t) → GivenItem pool.now V.Value.value (last_at_most K.Key.order key (items K.Key.key t)) result }
+    ensures answered { (t : Tree) → Carries pool.now root t → GivenItem pool.now V.Value.value (at_most K.Key.key K.cmp key t) result }
+    ensures listed { (t : Tree) → Carries pool.now root t → Ascending K.cmp (items K.Key.key t) → GivenItem pool.now V.Value.value (last_at_most K.cmp key (items K.Key.key t)) result }
 {
     if root == 0 {
         return None;
@@ -88,8 +88,8 @@ pub fn at_most<K: Key, V: Value>(pool: &Pool<'_>, root: u16, key: K) -> Option<(
 pub fn after<K: Key, V: Value>(pool: &Pool<'_>, root: u16, key: K) -> Option<(K, V)>
     requires held { (hs : List Held) × Holds pool.now hs }
     requires carried { (t : Tree) × Carries pool.now root t × Balanced t }
-    ensures answered { (t : Tree) → Carries pool.now root t → GivenItem pool.now V.Value.value (after K.Key.key K.Key.order key t) result }
-    ensures listed { (t : Tree) → Carries pool.now root t → Ascending K.Key.order (items K.Key.key t) → GivenItem pool.now V.Value.value (first_after K.Key.order key (items K.Key.key t)) result }
+    ensures answered { (t : Tree) → Carries pool.now root t → GivenItem pool.now V.Value.value (after K.Key.key K.cmp key t) result }
+    ensures listed { (t : Tree) → Carries pool.now root t → Ascending K.cmp (items K.Key.key t) → GivenItem pool.now V.Value.value (first_after K.cmp key (items K.Key.key t)) result }
 {
     if root == 0 {
         return None;
@@ -106,7 +106,7 @@ pub fn after<K: Key, V: Value>(pool: &Pool<'_>, root: u16, key: K) -> Option<(K,
 pub fn first<K: Key, V: Value>(pool: &Pool<'_>, root: u16) -> Option<(K, V)>
     requires held { (hs : List Held) × Holds pool.now hs }
     requires carried { (t : Tree) × Carries pool.now root t × Balanced t }
-    ensures answered { (t : Tree) → Carries pool.now root t → GivenItem pool.now V.Value.value (first K.Key.key K.Key.order t) result }
+    ensures answered { (t : Tree) → Carries pool.now root t → GivenItem pool.now V.Value.value (first K.Key.key K.cmp t) result }
     ensures listed { (t : Tree) → Carries pool.now root t → GivenItem pool.now V.Value.value (first_of (items K.Key.key t)) result }
 {
     if root == 0 {
@@ -120,7 +120,7 @@ pub fn first<K: Key, V: Value>(pool: &Pool<'_>, root: u16) -> Option<(K, V)>
 pub fn last<K: Key, V: Value>(pool: &Pool<'_>, root: u16) -> Option<(K, V)>
     requires held { (hs : List Held) × Holds pool.now hs }
     requires carried { (t : Tree) × Carries pool.now root t × Balanced t }
-    ensures answered { (t : Tree) → Carries pool.now root t → GivenItem pool.now V.Value.value (last K.Key.key K.Key.order t) result }
+    ensures answered { (t : Tree) → Carries pool.now root t → GivenItem pool.now V.Value.value (last K.Key.key K.cmp t) result }
     ensures listed { (t : Tree) → Carries pool.now root t → GivenItem pool.now V.Value.value (last_of (items K.Key.key t)) result }
 {
     if root == 0 {

@@ -10,8 +10,8 @@ use Rattle.tree.proofs.lookup.+first.Goals as goal
 pub returns-then-root-eq0 : goal.returns-then-root-eq0
 returns-then-root-eq0 g t c =
     let P : Option (Item g.row.K.Denot) → Type 0 = λ o. GivenItem c.args.pool.now g.V.Value.value o None in
-    let a = first-none c.args.pool.now c.args.root c.if-root-eq0.true g.K.Key.key g.K.Key.order P tt in
-    record { answered = a; listed = first-listed (kind_of g.met.K.Key) _ _ P a }
+    let a = first-none c.args.pool.now c.args.root c.if-root-eq0.true g.K.Key.key g.K.Ord.cmp P tt in
+    record { answered = a; listed = first-listed (kind_of g.met.K.Key g.met.K.Ord.total) _ _ P a }
 
 pub first-requires : goal.first-requires
 first-requires g t c κs =
@@ -23,7 +23,7 @@ pub returns : goal.returns
 returns g t c =
     let n : 0 < c.args.root = omega arith in
     let P : Option (Item g.row.K.Denot) → Type 0 = λ o. GivenItem c.args.pool.now g.V.Value.value o c.or_item.result in
-    let a = first_by _ _ c.requires.held.1 _ n _ c.node-node.ensures g.K.Key.key g.K.Key.order P (λ nested left right ls.
-    either-given _ g.K.Key.key g.V.Value.value _ _ _ _ ls (first g.K.Key.key g.K.Key.order left) c.first.result c.or_item.result c.or_item.ensures
+    let a = first_by _ _ c.requires.held.1 _ n _ c.node-node.ensures g.K.Key.key g.K.Ord.cmp P (λ nested left right ls.
+    either-given _ g.K.Key.key g.V.Value.value _ _ _ _ ls (first g.K.Key.key g.K.Ord.cmp left) c.first.result c.or_item.result c.or_item.ensures
     (c.first.ensures.answered left (side-carries _ _ _ _ _ ls Less _ c.side.ensures))) in
-    record { answered = a; listed = first-listed (kind_of g.met.K.Key) _ _ P a }
+    record { answered = a; listed = first-listed (kind_of g.met.K.Key g.met.K.Ord.total) _ _ P a }

@@ -5,45 +5,45 @@ use Rattle.tree.proofs.range.+total_between.Goals as goal
 
 pub returns-then-root-eq0 : goal.returns-then-root-eq0
 returns-then-root-eq0 g t c =
-    let a = walk_none (kind_of g.met.K.Key) c.args.low c.args.high _ _ c.if-root-eq0.true _ (none-totals _ c.none.ensures.count c.none.ensures.sum) in
-    record { answered = a; listed = walk-listed (kind_of g.met.K.Key) _ _ _ _ _ a }
+    let a = walk_none (kind_of g.met.K.Key g.met.K.Ord.total) c.args.low c.args.high _ _ c.if-root-eq0.true _ (none-totals _ c.none.ensures.count c.none.ensures.sum) in
+    record { answered = a; listed = walk-listed (kind_of g.met.K.Key g.met.K.Ord.total) _ _ _ _ _ a }
 
 pub total_between-below-requires : goal.total_between-below-requires
 total_between-below-requires g t c κs within =
     let n : 0 < c.args.root = omega arith in
-    let b = to_front (kind_of g.met.K.Key) c.args.low c.args.high _ _ c.requires.held.1 _ n _ c.node-node.ensures _ c.decreases _ c.left_from.ensures
+    let b = to_front (kind_of g.met.K.Key g.met.K.Ord.total) c.args.low c.args.high _ _ c.requires.held.1 _ n _ c.node-node.ensures _ c.decreases _ c.left_from.ensures
     c.requires.carried in
     (b.falls, (within, (c.requires.held, b.carried)))
 
 pub total_between-above-requires : goal.total_between-above-requires
 total_between-above-requires g t c κs within =
     let n : 0 < c.args.root = omega arith in
-    let b = to_back (kind_of g.met.K.Key) c.args.low c.args.high _ _ c.requires.held.1 _ n _ c.node-node.ensures _ c.decreases _ c.right_to.ensures
+    let b = to_back (kind_of g.met.K.Key g.met.K.Ord.total) c.args.low c.args.high _ _ c.requires.held.1 _ n _ c.node-node.ensures _ c.decreases _ c.right_to.ensures
     c.requires.carried in
     (b.falls, (within, (c.requires.held, b.carried)))
 
 pub plus-requires : goal.plus-requires
 plus-requires g t c =
     let n : 0 < c.args.root = omega arith in
-    let ps = parts (kind_of g.met.K.Key) c.args.low c.args.high c.args.pool.now c.node-node.result _ _ _ _ _ c.left_from.ensures c.right_to.ensures
+    let ps = parts (kind_of g.met.K.Key g.met.K.Ord.total) c.args.low c.args.high c.args.pool.now c.node-node.result _ _ _ _ _ c.left_from.ensures c.right_to.ensures
     c.total_between-below.ensures.answered c.own.ensures c.total_between-above.ensures.answered in
-    let f = inner-fits (kind_of g.met.K.Key) c.args.low c.args.high _ _ c.requires.held.1 _ n _ c.node-node.ensures _ _ _ ps c.requires.carried in
+    let f = inner-fits (kind_of g.met.K.Key g.met.K.Ord.total) c.args.low c.args.high _ _ c.requires.held.1 _ n _ c.node-node.ensures _ _ _ ps c.requires.carried in
     record { counted = f.counted; above = f.above; below = f.below }
 
 pub plus-requires-2 : goal.plus-requires-2
 plus-requires-2 g t c =
     let n : 0 < c.args.root = omega arith in
-    let ps = parts (kind_of g.met.K.Key) c.args.low c.args.high c.args.pool.now c.node-node.result _ _ _ _ _ c.left_from.ensures c.right_to.ensures
+    let ps = parts (kind_of g.met.K.Key g.met.K.Ord.total) c.args.low c.args.high c.args.pool.now c.node-node.result _ _ _ _ _ c.left_from.ensures c.right_to.ensures
     c.total_between-below.ensures.answered c.own.ensures c.total_between-above.ensures.answered in
-    let f = outer-fits (kind_of g.met.K.Key) c.args.low c.args.high _ _ c.requires.held.1 _ n _ c.node-node.ensures _ _ _ ps _
+    let f = outer-fits (kind_of g.met.K.Key g.met.K.Ord.total) c.args.low c.args.high _ _ c.requires.held.1 _ n _ c.node-node.ensures _ _ _ ps _
     c.plus.ensures.count c.plus.ensures.sum c.requires.carried in
     record { counted = f.counted; above = f.above; below = f.below }
 
 pub returns : goal.returns
 returns g t c =
     let n : 0 < c.args.root = omega arith in
-    let ps = parts (kind_of g.met.K.Key) c.args.low c.args.high c.args.pool.now c.node-node.result _ _ _ _ _ c.left_from.ensures c.right_to.ensures
+    let ps = parts (kind_of g.met.K.Key g.met.K.Ord.total) c.args.low c.args.high c.args.pool.now c.node-node.result _ _ _ _ _ c.left_from.ensures c.right_to.ensures
     c.total_between-below.ensures.answered c.own.ensures c.total_between-above.ensures.answered in
-    let a = walk-totals (kind_of g.met.K.Key) c.args.low c.args.high _ _ c.requires.held.1 _ n _ c.node-node.ensures _ _ _ ps _
+    let a = walk-totals (kind_of g.met.K.Key g.met.K.Ord.total) c.args.low c.args.high _ _ c.requires.held.1 _ n _ c.node-node.ensures _ _ _ ps _
     c.plus.ensures.count c.plus.ensures.sum _ c.plus-2.ensures.count c.plus-2.ensures.sum in
-    record { answered = a; listed = walk-listed (kind_of g.met.K.Key) _ _ _ _ _ a }
+    record { answered = a; listed = walk-listed (kind_of g.met.K.Key g.met.K.Ord.total) _ _ _ _ _ a }
