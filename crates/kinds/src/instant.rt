@@ -4,8 +4,8 @@ mod key;
 
 ghost use Rattle.std.specs.Prelude.{◌≡◌, ◌<◌};
 
-/// A whole number of seconds.
-#[derive(Clone, Copy)]
+/// A whole number of seconds. Instants go by their number.
+#[derive(Clone, Copy, PartialEq, Eq, PartialOrd, Ord)]
 pub struct Instant {
     seconds: u32,
     ghost fits: { seconds < 4294967296 },

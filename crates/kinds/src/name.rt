@@ -5,6 +5,8 @@ ghost use Rattle.kinds.specs.Lexical.{by_words, lexical};
 ghost use Rattle.kinds.specs.Name.{IsName, IsNameByte};
 ghost use Rattle.kinds.specs.Packed.{Checked, bytes_of, name_of, packed, padded, spelled, weighed};
 ghost use Rattle.std.proofs.Common.{rules};
+ghost use Rattle.std.specs.Cmp.Rules.{comparing};
+ghost use Rattle.std.specs.Ordering.{on};
 
 use pool::Words;
 use std::cmp::Ordering;
@@ -12,7 +14,7 @@ use tree::Key;
 
 /// A name of 1 to 16 bytes, kept as two words: its bytes as digits of a number, the first the greatest, with zero bytes
 /// behind.
-#[derive(Clone, Copy)]
+#[derive(Clone, Copy, PartialEq, Eq, PartialOrd)]
 pub struct Name {
     words: Words,
 }
@@ -73,24 +75,33 @@ impl Name {
 
 /// Names go by their bytes, a shorter prefix first. A zero byte is below every byte of a name, so that their words go
 /// the same way.
+impl Ord for Name {
+    ghost cmp = { on (λ name. name.words) by_words };
+
+    ghost total = { Prim.search (comparing, rules) };
+
+    ghost matches_partial_cmp = { Prim.search (comparing, rules) };
+
+    ghost matches_eq = { Prim.search (comparing, rules) };
+
+    fn cmp(&self, other: &Name) -> Ordering
+        ensures words { result ≡ by_words self.now.words other.now.words }
+        ensures bytes { (a b : List ℕ) → IsName a → IsName b → self.now ≡ name_of a → other.now ≡ name_of b → result ≡ lexical a b }
+    {
+        self.words.cmp(&other.words)
+    }
+}
+
 impl Key for Name {
     ghost words = { λ name. name.words };
 
     ghost key = { λ words. record { words = words } };
 
-    ghost order = { λ a b. by_words a.words b.words };
-
     ghost back = { Prim.search rules };
 
-    ghost equal = { Prim.search rules };
+    ghost equal = { Prim.search (comparing, rules) };
 
-    ghost same = { Prim.search rules };
-
-    ghost after = { Prim.search rules };
-
-    ghost before = { Prim.search rules };
-
-    ghost chained = { Prim.search rules };
+    ghost same = { Prim.search (comparing, rules) };
 
     fn to_words(self) -> Words {
         self.words
@@ -98,23 +109,6 @@ impl Key for Name {
 
     fn from_words(stored: Words) -> Name {
         Name { words: stored }
-    }
-
-    fn compare(self, other: Name) -> Ordering
-        ensures words { result ≡ by_words self.words other.words }
-        ensures bytes { (a b : List ℕ) → IsName a → IsName b → self ≡ name_of a → other ≡ name_of b → result ≡ lexical a b }
-    {
-        compare_words(self.words, other.words)
-    }
-}
-
-/// By the high word, then by the low word.
-fn compare_words(a: Words, b: Words) -> Ordering
-    ensures { result ≡ by_words a b }
-{
-    match a.high.cmp(&b.high) {
-        Ordering::Equal => a.low.cmp(&b.low),
-        unequal => unequal,
     }
 }
 
