@@ -1,5 +1,5 @@
 -- A name stands for the bytes that it was made of.
-use Rattle.std.proofs.Common.{◌≡◌, ℕ, ◌<◌, List, [], drop, Some, sym, ap, ◌∙◌, ⊎_elim, append-nil, arith, length-drop}
+use Rattle.std.proofs.Common.{◌≡◌, ℕ, ◌<◌, List, [], drop, Ok, sym, ap, ◌∙◌, ⊎_elim, append-nil, arith, length-drop}
 use Rattle.std.proofs.ByRecursion.{All-drop, All-from_get_or, All-weaker}
 use Rattle.std.proofs.lemmas.List.{drop_all}
 use Rattle.std.specs.List.{AllByRecursion}
@@ -45,7 +45,7 @@ bytes_of-name_of xs rule =
 pub name_of-once : (xs ys : List ℕ) → IsName xs → IsName ys → name_of xs ≡ name_of ys → xs ≡ ys
 name_of-once xs ys x y same = sym (bytes_of-name_of xs x) ∙ ap bytes_of same ∙ bytes_of-name_of ys y
 
-pub made_of : (xs : List ℕ) (name : Name) → IsName xs → name.words ≡ packed xs → Checked xs (Some name)
+pub made_of : (xs : List ℕ) (name : Name) → IsName xs → name.words ≡ packed xs → Checked xs (Ok name)
 made_of xs name rule same =
     let whole : name ≡ name_of xs = ap (λ words. record { words = words }) same in
     (rule, whole, ap bytes_of whole ∙ bytes_of-name_of xs rule)

@@ -1,18 +1,16 @@
-use Rattle.std.proofs.Common.{◌≡◌, ap, ◌∙◌, arith}
-use Rattle.kinds.specs.Packed.{spelled}
-use Rattle.kinds.proofs.Writing.{first_bytes, first_bytes-more, first_bytes-shown, length-spelled}
+use Rattle.std.proofs.Common.{ap, ◌∙◌, length}
+use Rattle.kinds.specs.Packed.{front, padded}
+use Rattle.kinds.proofs.Writing.{length-spelled, shown, written}
 use Rattle.kinds.proofs.name.Name.text.Goals as goal
-
-pub loop-place-preserved : goal.loop-place-preserved
-loop-place-preserved c =
-    let within = c.count-count.ensures.within in
-    first_bytes-more (spelled c.args.self) (length-spelled c.args.self) c.loop-place.bytes c.loop-place.place c.byte.result
-    (omega arith) c.byte.ensures c.loop-place.invariant
 
 pub returns : goal.returns
 returns c =
-    let counted = c.count-count.ensures in
-    let whole : c.loop-place.place ≡ c.count-count.result = omega arith in
-    let s = first_bytes-shown c.args.self c.loop-place.bytes c.count-count.result counted.within counted.before counted.first
-    (c.loop-place.invariant ∙ ap (λ n. first_bytes n (spelled c.args.self)) whole) in
-    record { count = s.count; bytes = s.bytes; shown = s.shown }
+    let bytes = c.spelled-bytes.result in
+    let same = c.spelled-bytes.ensures in
+    let sixteen = ap length same ∙ length-spelled c.args.self in
+    let counted = c.count_before_zero-count.ensures in
+    record {
+      count = counted ∙ ap (λ bs. length (front bs)) same;
+      bytes = written bytes c.fill.new.self _ sixteen counted (c.fill.ensures.after (λ y p. p)) ∙ ap (λ bs. padded (front bs)) same;
+      shown = shown bytes c.fill.new.self _ sixteen counted ∙ ap front same;
+    }
