@@ -1,6 +1,6 @@
 -- How bytes pack into a word, and come back from it.
-use Rattle.std.proofs.Common.{◌≡◌, ℕ, zero, suc, ◌+◌, ◌*◌, ◌/◌, ◌%◌, ◌^◌, ◌<◌, ◌≤◌, Bool, false, not, ◌==◌, eqb, List, [], ◌∷◌, ◌++◌, length, min, get_or, take, drop, replicate, sym, refl, ap, ◌∙◌, ⊎_elim, mul-le-mul_right, mul_assoc, mul_comm, add-mul, pow-suc, add-one, arith, ne_eqb}
-use native.Mathlib.Nat.{zero-div, div-eq_of_lt, mul-add-div_right, mul-add-mod_self_right, pow-le-pow_right}
+use Rattle.std.proofs.Common.{◌≡◌, ℕ, zero, suc, ◌+◌, ◌*◌, ◌/◌, ◌%◌, ◌^◌, ◌<◌, ◌≤◌, Bool, false, not, ◌==◌, eqb, List, [], ◌∷◌, ◌++◌, length, min, get_or, take, drop, replicate, sym, refl, ap, ◌∙◌, ⊎_elim, mul-le-mul_right, mul_assoc, mul_comm, add-mul, pow-suc, arith, ne_eqb}
+use native.Mathlib.Nat.{zero-div, div-eq_of_lt, mul-add-div_right, mul-add-mod_self_right}
 use Rattle.std.proofs.lemmas.List.{drop_all, get_or-drop}
 use Rattle.std.proofs.lemmas.Bool.{cases_lt}
 use Rattle.std.proofs.Math.Nat.{min-eq_left, min-eq_right}
@@ -75,14 +75,14 @@ from_be_bytes-weighed n xs =
 
 -- the first 8 bytes, or all where they are fewer, and those behind
 abbrev IsSplit : List ℕ → ℕ → Type 0
-IsSplit xs n = record {high = weighed 8 (take n xs); low = weighed 8 (drop n xs)} ≡ packed xs
+IsSplit xs n = record { high = weighed 8 (take n xs); low = weighed 8 (drop n xs) } ≡ packed xs
 
 short : (xs : List ℕ) (n : ℕ) → n ≡ min (length xs) 8 → length xs < 8 → IsSplit xs n
 short xs n e h =
     let all : n ≡ length xs = e ∙ min-eq_left (omega arith) in
     let front : take n xs ≡ xs = ap (λ k. take k xs) all ∙ take-length xs in
     let back : drop n xs ≡ drop 8 xs = drop_all n xs (omega arith) ∙ sym (drop_all 8 xs (omega arith)) in
-    λ i. record {high = weighed 8 (front i); low = weighed 8 (back i)}
+    λ i. record { high = weighed 8 (front i); low = weighed 8 (back i) }
 
 long : (xs : List ℕ) (n : ℕ) → n ≡ min (length xs) 8 → 8 ≤ length xs → IsSplit xs n
 long xs n e h = rw (e, min-eq_right h, weighed-take 8 xs) refl

@@ -5,7 +5,7 @@ use Rattle.std.proofs.lemmas.List.Folds.{length-prefix_len}
 use Rattle.std.proofs.lemmas.List.Sums.{prefix_len-le-length}
 use Rattle.std.proofs.lemmas.Slice.{take-put_mid_below}
 use borrow.Rule.Slice.PartMut.{put_mid}
-use Rattle.kinds.specs.Packed.{bytes_of, front, padded, spelled}
+use Rattle.kinds.specs.Packed.{front, padded, spelled}
 use Rattle.kinds.specs.declared.name.Name.{Name}
 
 pub length-spelled : (name : Name) → length (spelled name) ≡ 16

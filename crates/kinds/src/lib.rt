@@ -12,4 +12,4 @@ pub use backward::BackwardName;
 pub use instant::Instant;
 pub use name::{Name, NameText, NotAName};
 pub use order::NameOrder;
-pub use reading::Reading;
+pub use reading::{OutOfRange, Reading};

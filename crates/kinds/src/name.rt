@@ -10,10 +10,9 @@ ghost use Rattle.kinds.specs.Lexical.{by_words, lexical};
 ghost use Rattle.kinds.specs.Name.{IsName, IsNameByte};
 ghost use Rattle.kinds.specs.Packed.{Checked, bytes_of, front, name_of, packed, padded, spelled, weighed};
 
-pub use text::NameText;
-
 use pool::Words;
 use std::cmp::Ordering;
+pub use text::NameText;
 use tree::Key;
 
 /// A name of 1 to 16 bytes, kept as two words: its bytes as digits of a number, the first the greatest, with zero bytes

@@ -1,14 +1,31 @@
 //! Instants as keys, by their number.
 
 ghost use Rattle.std.specs.Prelude.{◌≡◌};
-ghost use Rattle.kinds.specs.Instant.{instant_of};
-ghost use Rattle.kinds.specs.Instants.{instant_of-seconds};
 ghost use Rattle.std.proofs.Common.{rules};
 ghost use Rattle.std.specs.Cmp.Rules.{comparing};
+ghost use Rattle.std.specs.Ordering.{nat_cmp, on};
+ghost use Rattle.kinds.specs.Instant.{instant_of};
+ghost use Rattle.kinds.specs.Instants.{instant_of-seconds};
 
 use crate::instant::Instant;
 use pool::Words;
+use std::cmp::Ordering;
 use tree::Key;
+
+/// Instants go by their number. A derived order would be the same, and would not say so.
+impl Ord for Instant {
+    ghost cmp = { on (λ instant. instant.seconds) nat_cmp };
+
+    ghost total = { Prim.search (comparing, rules) };
+
+    ghost matches_partial_cmp = { Prim.search (comparing, rules) };
+
+    ghost matches_eq = { Prim.search (comparing, rules) };
+
+    fn cmp(&self, other: &Instant) -> Ordering {
+        self.seconds.cmp(&other.seconds)
+    }
+}
 
 impl Key for Instant {
     ghost words = { λ instant. record { high = 0; low = instant.seconds } };

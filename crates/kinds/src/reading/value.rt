@@ -4,22 +4,26 @@ ghost use Rattle.std.specs.Prelude.{◌≡◌};
 ghost use Rattle.kinds.specs.Reading.{Checked, reading_of};
 ghost use Rattle.kinds.specs.Readings.{reading_of-microhertz};
 
-use crate::reading::Reading;
+use crate::reading::{OutOfRange, Reading};
 use tree::Value;
 
 impl Reading {
     const LEAST: i64 = -1000000000000;
 
     const GREATEST: i64 = 1000000000000;
+}
 
-    /// A reading of that many microhertz, if they are in range.
-    pub fn new(microhertz: i64) -> Option<Reading>
-        ensures { Checked microhertz result }
-    {
-        if microhertz < Self::LEAST || microhertz > Self::GREATEST {
-            return None;
+impl TryFrom<i64> for Reading {
+    type Error = OutOfRange;
+
+    ghost try_from_gives = { Checked };
+
+    fn try_from(microhertz: i64) -> Result<Reading, OutOfRange> {
+        if (Self::LEAST..=Self::GREATEST).contains(&microhertz) {
+            Ok(Reading { microhertz })
+        } else {
+            Err(OutOfRange)
         }
-        Some(Reading { microhertz })
     }
 }
 
