@@ -68,6 +68,6 @@ packed-lexical xs ys x y =
     let low : nat_cmp (weighed 8 (drop 8 xs)) (weighed 8 (drop 8 ys)) ≡ lexical (drop 8 xs) (drop 8 ys) = sym (then-equal _) ∙ ended in
     ap (ordering_then (nat_cmp (weighed 8 xs) (weighed 8 ys))) low ∙ weighed-lexical 8 xs ys (positive xs x) (bytes xs x) (positive ys y) (bytes ys y)
 
-pub names-lexical : (a b : Name) (xs ys : List ℕ) → IsName xs → IsName ys → a ≡ name_of xs → b ≡ name_of ys → by_words a.words b.words ≡ lexical xs ys
-names-lexical a b xs ys x y p q =
+pub names_lexical : (a b : Name) (xs ys : List ℕ) → IsName xs → IsName ys → a ≡ name_of xs → b ≡ name_of ys → by_words a.words b.words ≡ lexical xs ys
+names_lexical a b xs ys x y p q =
     ap (λ (n : Name). by_words n.words b.words) p ∙ ap (λ (n : Name). by_words (packed xs) n.words) q ∙ packed-lexical xs ys x y

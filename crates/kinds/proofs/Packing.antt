@@ -6,9 +6,9 @@ use Rattle.std.proofs.lemmas.Bool.{cases_lt}
 use Rattle.std.proofs.Math.Nat.{min-eq_left, min-eq_right}
 use Rattle.std.proofs.Math.Seq.{take-length}
 use Rattle.std.proofs.lemmas.List.Sums.{take_while-cons}
-use Rattle.std.specs.Int.{from_be_bytes, w64}
+use Rattle.std.specs.Int.{byte_at, bytes_high_first, from_be_bytes, w64}
 use Rattle.std.specs.List.{AllByRecursion}
-use Rattle.kinds.specs.Packed.{weighed, packed, digits, front}
+use Rattle.kinds.specs.Packed.{weighed, packed, front}
 
 abbrev pub Bytes : List ℕ → Type 0
 Bytes xs = AllByRecursion (λ x. x < 256) xs
@@ -66,8 +66,8 @@ same (x ∷ xs) n many zero = refl
 same (x ∷ xs) n many (suc place) = same xs n many place
 
 -- eight bytes, of which those behind are 0
-pub from_be_bytes-weighed : (n : ℕ) (xs : List ℕ) → from_be_bytes w64 (xs ++ drop n (replicate 8 0)) ≡ weighed 8 xs
-from_be_bytes-weighed n xs =
+pub word_weighed : (n : ℕ) (xs : List ℕ) → from_be_bytes w64 (xs ++ drop n (replicate 8 0)) ≡ weighed 8 xs
+word_weighed n xs =
     let e = λ (k : ℕ). weighed-suc k xs in
     let s = same xs n 8 in
     let first : weighed 0 xs ≡ 0 = weighed-zero xs in
@@ -90,34 +90,38 @@ long xs n e h = rw (e, min-eq_right h, weighed-take 8 xs) refl
 pub split : (xs : List ℕ) (n : ℕ) → n ≡ min (length xs) 8 → IsSplit xs n
 split xs n e = ⊎_elim (short xs n e) (long xs n e) (cases_lt (length xs) 8)
 
--- what stands above the places does not change the digits
-digits_above : (k m w : ℕ) → digits k (m * 256 ^ k + w) ≡ digits k w
-digits_above zero m w = refl
-digits_above (suc k) m w =
-    let lower : m * 256 ^ suc k ≡ m * 256 * 256 ^ k = ap (λ p. m * p) (pow-suc 256 k ∙ mul_comm (256 ^ k) 256) ∙ sym (mul_assoc m 256 (256 ^ k)) in
-    let head : (m * 256 * 256 ^ k + w) / 256 ^ k % 256 ≡ w / 256 ^ k % 256 =
-    ap (λ q. q % 256) (mul-add-div_right (places-pos k) (m * 256) w) ∙ mul-add-mod_self_right m 256 (w / 256 ^ k) in
-    rw (lower, head) (ap (λ tail. w / 256 ^ k % 256 ∷ tail) (digits_above k (m * 256) w))
+byte_at-is : (k n : ℕ) → byte_at k n ≡ n / 256 ^ k % 256
+byte_at-is zero n = omega arith
+byte_at-is (suc k) n = refl
 
-pub digits-weighed : (k x : ℕ) (xs : List ℕ) → x < 256 → Bytes xs → digits (suc k) (weighed (suc k) (x ∷ xs)) ≡ x ∷ digits k (weighed k xs)
+-- what stands above the places does not change the bytes
+bytes_above : (k m w : ℕ) → bytes_high_first k (m * 256 ^ k + w) ≡ bytes_high_first k w
+bytes_above zero m w = refl
+bytes_above (suc k) m w =
+    let lower : m * 256 ^ suc k ≡ m * 256 * 256 ^ k = ap (λ p. m * p) (pow-suc 256 k ∙ mul_comm (256 ^ k) 256) ∙ sym (mul_assoc m 256 (256 ^ k)) in
+    let head : byte_at k (m * 256 * 256 ^ k + w) ≡ byte_at k w =
+    byte_at-is k (m * 256 * 256 ^ k + w) ∙ ap (λ q. q % 256) (mul-add-div_right (places-pos k) (m * 256) w) ∙ mul-add-mod_self_right m 256 (w / 256 ^ k) ∙ sym (byte_at-is k w) in
+    rw (lower, head) (ap (λ tail. byte_at k w ∷ tail) (bytes_above k (m * 256) w))
+
+bytes-weighed : (k x : ℕ) (xs : List ℕ) → x < 256 → Bytes xs → bytes_high_first (suc k) (weighed (suc k) (x ∷ xs)) ≡ x ∷ bytes_high_first k (weighed k xs)
 unfolding weighed
-digits-weighed k x xs small all =
+bytes-weighed k x xs small all =
     let none : weighed k xs / 256 ^ k ≡ 0 = div-eq_of_lt (weighed-below k xs all) in
-    let split = mul-add-div_right (places-pos k) x (weighed k xs) in
-    let head : (x * 256 ^ k + weighed k xs) / 256 ^ k % 256 ≡ x = rw (split, none) (omega arith) in
-    rw head (ap (λ tail. x ∷ tail) (digits_above k x (weighed k xs)))
+    let parts = mul-add-div_right (places-pos k) x (weighed k xs) in
+    let head : byte_at k (x * 256 ^ k + weighed k xs) ≡ x = byte_at-is k _ ∙ rw (parts, none) (omega arith) in
+    rw head (ap (λ tail. x ∷ tail) (bytes_above k x (weighed k xs)))
 
 abbrev some_byte : ℕ → Bool
 some_byte byte = not (byte == 0)
 
--- bytes other than zero are the front of their digits
-pub front-digits : (k : ℕ) (xs zs : List ℕ) → AllByRecursion (λ x. 0 < x) xs → Bytes xs → front zs ≡ drop k xs → front (digits k (weighed k xs) ++ zs) ≡ xs
-front-digits zero xs zs full all e = e
-front-digits (suc k) [] zs full all e =
-    let none : weighed (suc k) [] / 256 ^ k % 256 ≡ 0 = rw (weighed-nil, zero-div) refl in
-    take_while-cons some_byte _ (digits k (weighed (suc k) []) ++ zs) ∙ rw none refl
-front-digits (suc k) (x ∷ xs) zs full all e =
-    let more = front-digits k xs zs full.1 all.1 e in
-    let shown = digits-weighed k x xs all.0 all.1 in
+-- bytes other than zero are the front of the bytes of their number
+pub front-bytes : (k : ℕ) (xs zs : List ℕ) → AllByRecursion (λ x. 0 < x) xs → Bytes xs → front zs ≡ drop k xs → front (bytes_high_first k (weighed k xs) ++ zs) ≡ xs
+front-bytes zero xs zs full all e = e
+front-bytes (suc k) [] zs full all e =
+    let none : byte_at k (weighed (suc k) []) ≡ 0 = byte_at-is k _ ∙ rw (weighed-nil, zero-div) refl in
+    take_while-cons some_byte _ (bytes_high_first k (weighed (suc k) []) ++ zs) ∙ rw none refl
+front-bytes (suc k) (x ∷ xs) zs full all e =
+    let more = front-bytes k xs zs full.1 all.1 e in
+    let shown = bytes-weighed k x xs all.0 all.1 in
     let some : eqb x 0 ≡ false = ne_eqb x 0 (λ same. let above = full.0 in omega arith) in
-    ap (λ ds. front (ds ++ zs)) shown ∙ take_while-cons some_byte x (digits k (weighed k xs) ++ zs) ∙ rw (some, more) refl
+    ap (λ ds. front (ds ++ zs)) shown ∙ take_while-cons some_byte x (bytes_high_first k (weighed k xs) ++ zs) ∙ rw (some, more) refl

@@ -1,5 +1,6 @@
 -- How a name keeps its bytes: packed into two words, the first byte the greatest, with zero bytes behind; and how they come back.
-use Rattle.std.specs.Prelude.{◌≡◌, ℕ, zero, suc, ◌+◌, ◌-◌, ◌*◌, ◌/◌, ◌%◌, ◌^◌, not, List, [], ◌∷◌, ◌++◌, length, drop, replicate, Ok, Err, Result, ◌==◌}
+use Rattle.std.specs.Prelude.{◌≡◌, ℕ, zero, suc, ◌+◌, ◌-◌, ◌*◌, ◌^◌, not, List, [], ◌∷◌, ◌++◌, length, drop, replicate, Ok, Err, Result, ◌==◌}
+use Rattle.std.specs.Int.{to_be_bytes, w64}
 use Rattle.std.specs.List.{take_while}
 use Rattle.pool.specs.declared.node.Words.{Words}
 use Rattle.kinds.specs.Name.{IsName}
@@ -19,14 +20,9 @@ packed bytes = record { high = weighed 8 bytes; low = weighed 8 (drop 8 bytes) }
 abbrev pub name_of : List ℕ → Name
 name_of bytes = record { words = packed bytes }
 
--- the bytes of a number in that many places, the greatest first
-abbrev pub digits : ℕ → ℕ → List ℕ
-digits zero n = []
-digits (suc places) n = n / 256 ^ places % 256 ∷ digits places n
-
 -- the 16 bytes of a name's words
 unfoldable pub spelled : Name → List ℕ
-spelled name = digits 8 name.words.high ++ digits 8 name.words.low
+spelled name = to_be_bytes w64 name.words.high ++ to_be_bytes w64 name.words.low
 
 -- the bytes before the first zero byte
 abbrev pub front : List ℕ → List ℕ

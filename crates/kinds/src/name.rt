@@ -33,6 +33,7 @@ impl TryFrom<&[u8]> for Name {
 
     ghost try_from_gives = { λ bytes result. Checked bytes.now result };
 
+    #[tactic(auto, using(crate::proofs::Spelling::made_of))]
     fn try_from(bytes: &[u8]) -> Result<Name, NotAName> {
         if is_name(bytes) {
             Ok(Name { words: pack(bytes) })
@@ -56,6 +57,7 @@ impl Name {
     }
 
     /// The bytes of both words.
+    #[tactic(auto, unfolding(crate::specs::Packed::spelled))]
     fn spelled(self) -> [u8; LONGEST]
         ensures { result ≡ spelled self }
     {
@@ -77,6 +79,7 @@ impl Ord for Name {
 
     ghost matches_eq = { Prim.search (comparing, rules) };
 
+    #[tactic(auto, using(crate::proofs::ByBytes::names_lexical))]
     fn cmp(&self, other: &Name) -> Ordering
         ensures words { result ≡ by_words self.now.words other.now.words }
         ensures bytes { (a b : List ℕ) → IsName a → IsName b → self.now ≡ name_of a → other.now ≡ name_of b → result ≡ lexical a b }
@@ -125,6 +128,7 @@ fn is_name_byte(byte: u8) -> bool
 }
 
 /// The first 8 bytes go into the high word, the others into the low word.
+#[tactic(auto, using(crate::proofs::Packing::split))]
 fn pack(bytes: &[u8]) -> Words
     requires { length bytes.now ≤ 16 }
     ensures { result ≡ packed bytes.now }
@@ -137,6 +141,7 @@ fn pack(bytes: &[u8]) -> Words
 }
 
 /// The bytes as a number with zero bytes behind, the first the greatest.
+#[tactic(auto, using(crate::proofs::Packing::word_weighed))]
 fn word_from(bytes: &[u8]) -> u64
     requires { length bytes.now ≤ 8 }
     ensures { result ≡ weighed 8 bytes.now }
