@@ -8,9 +8,9 @@ use borrow.Rule.Slice.PartMut.{put_mid}
 use Rattle.kinds.specs.Packed.{front, padded, spelled}
 use Rattle.kinds.specs.declared.name.Name.{Name}
 
-pub length-spelled : (name : Name) → length (spelled name) ≡ 16
+pub length_spelled : (name : Name) → length (spelled name) ≡ 16
 unfolding spelled
-length-spelled name = refl
+length_spelled name = refl
 
 -- sixteen bytes, of which those from the first zero byte on are overwritten with zero bytes
 module _ (bytes rest : List ℕ) (count : ℕ) (sixteen : length bytes ≡ 16) (counted : count ≡ length (front bytes)) where

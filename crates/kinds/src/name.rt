@@ -45,6 +45,7 @@ impl TryFrom<&[u8]> for Name {
 
 impl Name {
     /// The name's bytes, which end before the first zero byte.
+    #[tactic(auto, using(crate::proofs::Writing::written, crate::proofs::Writing::shown, crate::proofs::Writing::length_spelled))]
     pub fn text(self) -> NameText
         ensures count { result.count ≡ length (bytes_of self) }
         ensures bytes { result.bytes ≡ padded (bytes_of self) }
