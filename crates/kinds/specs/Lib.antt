@@ -4,5 +4,3 @@ pub mod Name
 pub mod Packed
 pub mod Range
 pub mod Reading
-pub mod Instants
-pub mod Readings
