@@ -33,3 +33,5 @@ module _ (bytes rest : List ℕ) (count : ℕ) (sixteen : length bytes ≡ 16) (
 
   pub shown : take count (put_mid count (16 - count) bytes rest) ≡ front bytes
   shown = take-put_mid_below count (16 - count) bytes rest count (omega arith) (let h = within in omega arith) ∙ sym before
+
+pub ruleset texts = (written, shown, length_spelled)

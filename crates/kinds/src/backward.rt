@@ -15,6 +15,7 @@ use std::cmp::Ordering;
 use tree::Key;
 
 /// A name in the backward order: by bytes, the greater first.
+/// It is no `Reverse<Name>`: that is no key, and its `cmp` says nothing of the bytes.
 #[derive(Clone, Copy, PartialEq, Eq)]
 pub struct BackwardName {
     pub name: Name,

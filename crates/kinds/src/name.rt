@@ -2,7 +2,7 @@
 
 mod text;
 
-ghost use Rattle.std.specs.Prelude.{◌≡◌, ◌≤◌, ℕ, Decides, List, length, take};
+ghost use Rattle.std.specs.Prelude.{◌≡◌, ◌≤◌, ◌↔◌, ℕ, IsTrue, List, length, take};
 ghost use Rattle.std.proofs.Common.{rules};
 ghost use Rattle.std.specs.Cmp.Rules.{comparing};
 ghost use Rattle.std.specs.Ordering.{on};
@@ -45,7 +45,7 @@ impl TryFrom<&[u8]> for Name {
 
 impl Name {
     /// The name's bytes, which end before the first zero byte.
-    #[tactic(auto, using(crate::proofs::Writing::written, crate::proofs::Writing::shown, crate::proofs::Writing::length_spelled))]
+    #[tactic(auto, using(crate::proofs::Writing::texts))]
     pub fn text(self) -> NameText
         ensures count { result.count ≡ length (bytes_of self) }
         ensures bytes { result.bytes ≡ padded (bytes_of self) }
@@ -117,13 +117,13 @@ fn count_before_zero(bytes: &[u8]) -> usize
 }
 
 fn is_name(bytes: &[u8]) -> bool
-    ensures { Decides result (IsName bytes.now) }
+    ensures { IsTrue result ↔ IsName bytes.now }
 {
-    !bytes.is_empty() && bytes.len() <= LONGEST && bytes.iter().all(|byte| is_name_byte(*byte))
+    !bytes.is_empty() && bytes.len() <= LONGEST && bytes.iter().copied().all(is_name_byte)
 }
 
 fn is_name_byte(byte: u8) -> bool
-    ensures { Decides result (IsNameByte byte) }
+    ensures { IsTrue result ↔ IsNameByte byte }
 {
     matches!(byte, b'A'..=b'Z' | b'0'..=b'9' | b'-')
 }

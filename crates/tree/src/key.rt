@@ -7,6 +7,7 @@ ghost use Rattle.pool.specs.declared.node.Words.{Words};
 use pool::Words;
 
 /// A kind of key goes into two words and comes back unchanged. Its order is that of `Ord`.
+/// `to_words` and `from_words` are no `From`: the contract of that is a relation, and the laws need two functions.
 pub trait Key: Copy + Ord {
     ghost words: { Self → Words };
 

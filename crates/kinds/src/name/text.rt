@@ -2,10 +2,12 @@
 
 ghost use Rattle.std.specs.Prelude.{◌≡◌, ◌≤◌, take};
 
+use crate::name::LONGEST;
+
 /// The bytes of a name, at most 16, with zero bytes behind.
 #[derive(Clone, Copy)]
 pub struct NameText {
-    pub(super) bytes: [u8; 16],
+    pub(super) bytes: [u8; LONGEST],
     pub(super) count: usize,
     ghost within: { count ≤ 16 },
 }
