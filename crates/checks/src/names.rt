@@ -2,21 +2,20 @@
 
 use kinds::{BackwardName, Name, Reading};
 use std::cmp::Ordering;
-use tree::Key;
 
 /// How two names compare, by bytes and backward; none where one of them is no name.
 fn compared(a: &[u8], b: &[u8]) -> Option<(Ordering, Ordering)> {
-    let a = Name::new(a)?;
-    let b = Name::new(b)?;
-    let backward = BackwardName { name: a }.compare(BackwardName { name: b });
-    Some((a.compare(b), backward))
+    let a = Name::try_from(a).ok()?;
+    let b = Name::try_from(b).ok()?;
+    let backward = BackwardName { name: a }.cmp(&BackwardName { name: b });
+    Some((a.cmp(&b), backward))
 }
 
 #[test]
 fn names_keep_their_rule(rt: HostRuntime) {
     let names: [&[u8]; 4] = [b"A", b"SG-7", b"-", b"0123456789ABCDEF"];
     for name in names {
-        assert!(rt; Name::new(name).is_some());
+        assert!(rt; Name::try_from(name).is_ok());
     }
     let others: [&[u8]; 6] = [
         b"",
@@ -27,11 +26,11 @@ fn names_keep_their_rule(rt: HostRuntime) {
         b"SG-7\0",
     ];
     for name in others {
-        assert!(rt; Name::new(name).is_none());
+        assert!(rt; Name::try_from(name).is_err());
     }
-    assert!(rt; Reading::new(1000000000000).is_some());
-    assert!(rt; Reading::new(1000000000001).is_none());
-    assert!(rt; Reading::new(-1000000000001).is_none());
+    assert!(rt; Reading::try_from(1000000000000).is_ok());
+    assert!(rt; Reading::try_from(1000000000001).is_err());
+    assert!(rt; Reading::try_from(-1000000000001).is_err());
 }
 
 #[test]

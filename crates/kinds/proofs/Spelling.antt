@@ -1,12 +1,13 @@
 -- A name stands for the bytes that it was made of.
-use Rattle.std.proofs.Common.{◌≡◌, ℕ, ◌<◌, List, [], drop, Some, sym, ap, ◌∙◌, ⊎_elim, append-nil, arith, length-drop}
+use Rattle.std.proofs.Common.{◌≡◌, ℕ, ◌<◌, List, [], drop, Ok, sym, ap, ◌∙◌, ⊎_elim, append-nil, arith, length-drop}
 use Rattle.std.proofs.ByRecursion.{All-drop, All-from_get_or, All-weaker}
 use Rattle.std.proofs.lemmas.List.{drop_all}
+use Rattle.std.specs.Int.{to_be_bytes, w64}
 use Rattle.std.specs.List.{AllByRecursion}
 use Rattle.kinds.specs.declared.name.Name.{Name}
 use Rattle.kinds.specs.Name.{IsNameByte, IsName}
-use Rattle.kinds.specs.Packed.{Checked, name_of, bytes_of, packed, spelled, weighed, digits, front}
-use Rattle.kinds.proofs.Packing.{Bytes, front-digits}
+use Rattle.kinds.specs.Packed.{Checked, name_of, bytes_of, packed, spelled, weighed, front}
+use Rattle.kinds.proofs.Packing.{Bytes, front-bytes}
 
 pub name-byte-positive : (b : ℕ) → IsNameByte b → 0 < b
 name-byte-positive b = ⊎_elim (λ h. omega arith) (⊎_elim (λ h. omega arith) (λ h. omega arith))
@@ -36,16 +37,16 @@ nothing-behind xs rule = drop_all 8 (drop 8 xs) (simp length-drop (let most = ru
 pub bytes_of-name_of : (xs : List ℕ) → IsName xs → bytes_of (name_of xs) ≡ xs
 unfolding spelled
 bytes_of-name_of xs rule =
-    let low = digits 8 (weighed 8 (drop 8 xs)) in
+    let low = to_be_bytes w64 (weighed 8 (drop 8 xs)) in
     let rest : front low ≡ drop 8 xs =
-    ap front (sym (append-nil low)) ∙ front-digits 8 (drop 8 xs) [] (positive-behind xs rule) (bytes-behind xs rule) (sym (nothing-behind xs rule)) in
-    front-digits 8 xs low (positive xs rule) (bytes xs rule) rest
+    ap front (sym (append-nil low)) ∙ front-bytes 8 (drop 8 xs) [] (positive-behind xs rule) (bytes-behind xs rule) (sym (nothing-behind xs rule)) in
+    front-bytes 8 xs low (positive xs rule) (bytes xs rule) rest
 
 -- two names are one exactly when their bytes are the same
 pub name_of-once : (xs ys : List ℕ) → IsName xs → IsName ys → name_of xs ≡ name_of ys → xs ≡ ys
 name_of-once xs ys x y same = sym (bytes_of-name_of xs x) ∙ ap bytes_of same ∙ bytes_of-name_of ys y
 
-pub made_of : (xs : List ℕ) (name : Name) → IsName xs → name.words ≡ packed xs → Checked xs (Some name)
+pub made_of : (xs : List ℕ) (name : Name) → IsName xs → name.words ≡ packed xs → Checked xs (Ok name)
 made_of xs name rule same =
     let whole : name ≡ name_of xs = ap (λ words. record { words = words }) same in
     (rule, whole, ap bytes_of whole ∙ bytes_of-name_of xs rule)

@@ -1,9 +1,6 @@
 pub mod Instant
 pub mod Lexical
 pub mod Name
-pub mod Numeric
 pub mod Packed
 pub mod Range
 pub mod Reading
-pub mod Instants
-pub mod Readings

@@ -1,8 +1,11 @@
 -- How a name keeps its bytes: packed into two words, the first byte the greatest, with zero bytes behind; and how they come back.
-use Rattle.std.specs.Prelude.{◌≡◌, ℕ, zero, suc, ◌+◌, ◌-◌, ◌*◌, ◌/◌, ◌%◌, ◌^◌, cond, List, [], ◌∷◌, ◌++◌, length, drop, replicate, Some, None, Option, ◌==◌}
+use Rattle.std.specs.Prelude.{◌≡◌, ℕ, zero, suc, ◌+◌, ◌-◌, ◌*◌, ◌^◌, not, List, [], ◌∷◌, ◌++◌, length, drop, replicate, Ok, Err, Result, ◌==◌}
+use Rattle.std.specs.Int.{to_be_bytes, w64}
+use Rattle.std.specs.List.{take_while}
 use Rattle.pool.specs.declared.node.Words.{Words}
 use Rattle.kinds.specs.Name.{IsName}
 use Rattle.kinds.specs.declared.name.Name.{Name}
+use Rattle.kinds.specs.declared.name.NotAName.{NotAName}
 
 -- the first bytes as a number of that many places in base 256, the first byte the greatest; a missing byte is 0
 unfoldable pub weighed : ℕ → List ℕ → ℕ
@@ -17,19 +20,13 @@ packed bytes = record { high = weighed 8 bytes; low = weighed 8 (drop 8 bytes) }
 abbrev pub name_of : List ℕ → Name
 name_of bytes = record { words = packed bytes }
 
--- the bytes of a number in that many places, the greatest first
-abbrev pub digits : ℕ → ℕ → List ℕ
-digits zero n = []
-digits (suc places) n = n / 256 ^ places % 256 ∷ digits places n
-
 -- the 16 bytes of a name's words
 unfoldable pub spelled : Name → List ℕ
-spelled name = digits 8 name.words.high ++ digits 8 name.words.low
+spelled name = to_be_bytes w64 name.words.high ++ to_be_bytes w64 name.words.low
 
 -- the bytes before the first zero byte
 abbrev pub front : List ℕ → List ℕ
-front [] = []
-front (b ∷ bytes) = cond (b == 0) [] (b ∷ front bytes)
+front = take_while (λ byte. not (byte == 0))
 
 -- the bytes that a name stands for
 abbrev pub bytes_of : Name → List ℕ
@@ -40,6 +37,6 @@ abbrev pub padded : List ℕ → List ℕ
 padded bytes = bytes ++ replicate (16 - length bytes) 0
 
 -- bytes make a name exactly when they keep the rule; it is then the name that packs them, and stands for just these bytes
-abbrev pub Checked : List ℕ → Option Name → Type 0
-Checked bytes None = IsName bytes → ⊥
-Checked bytes (Some name) = IsName bytes × (name ≡ name_of bytes) × (bytes_of name ≡ bytes)
+abbrev pub Checked : List ℕ → Result Name NotAName → Type 0
+Checked bytes (Err _) = IsName bytes → ⊥
+Checked bytes (Ok name) = IsName bytes × (name ≡ name_of bytes) × (bytes_of name ≡ bytes)

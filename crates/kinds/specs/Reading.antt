@@ -1,15 +1,16 @@
 -- Readings as numbers of microhertz, and which numbers are readings.
-use Rattle.std.specs.Prelude.{◌≡◌, ℤ, pos, neg_ℤ, Some, None, Option}
+use Rattle.std.specs.Prelude.{◌≡◌, ℤ, pos, neg_ℤ, Ok, Err, Result}
 use Rattle.std.proofs.Common.{arith}
 use Rattle.std.proofs.lemmas.Int.{ints, clamps}
 use Rattle.std.specs.Int.{int_max, int_min}
 use Rattle.kinds.specs.Range.{InRange}
+use Rattle.kinds.specs.declared.reading.OutOfRange.{OutOfRange}
 use Rattle.kinds.specs.declared.reading.Reading.{Reading}
 
 -- a number is a reading exactly when it is in range
-abbrev pub Checked : ℤ → Option Reading → Type 0
-Checked z None = InRange z → ⊥
-Checked z (Some reading) = InRange z × (reading.microhertz ≡ z)
+abbrev pub Checked : ℤ → Result Reading OutOfRange → Type 0
+Checked z (Err _) = InRange z → ⊥
+Checked z (Ok reading) = InRange z × (reading.microhertz ≡ z)
 
 -- the number in range that is nearest
 abbrev pub nearest : ℤ → ℤ

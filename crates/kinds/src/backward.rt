@@ -5,6 +5,9 @@ ghost use Rattle.kinds.specs.Lexical.{by_words, lexical};
 ghost use Rattle.kinds.specs.Name.{IsName};
 ghost use Rattle.kinds.specs.Packed.{name_of};
 ghost use Rattle.std.proofs.Common.{rules};
+ghost use Rattle.std.specs.Cmp.{partial_order_from_own_ties};
+ghost use Rattle.std.specs.Cmp.Rules.{comparing};
+ghost use Rattle.std.specs.Ordering.{as_partial_cmp, flip_args, on};
 
 use crate::name::Name;
 use pool::Words;
@@ -12,9 +15,37 @@ use std::cmp::Ordering;
 use tree::Key;
 
 /// A name in the backward order: by bytes, the greater first.
-#[derive(Clone, Copy)]
+/// It is no `Reverse<Name>`: that is no key, and its `cmp` says nothing of the bytes.
+#[derive(Clone, Copy, PartialEq, Eq)]
 pub struct BackwardName {
     pub name: Name,
+}
+
+impl Ord for BackwardName {
+    ghost cmp = { flip_args (on (λ backward. backward.name.words) by_words) };
+
+    ghost total = { Prim.search (comparing, rules) };
+
+    ghost matches_partial_cmp = { Prim.search (comparing, rules) };
+
+    ghost matches_eq = { Prim.search (comparing, rules) };
+
+    fn cmp(&self, other: &BackwardName) -> Ordering
+        ensures words { result ≡ by_words other.now.name.words self.now.name.words }
+        ensures bytes { (a b : List ℕ) → IsName a → IsName b → self.now.name ≡ name_of a → other.now.name ≡ name_of b → result ≡ lexical b a }
+    {
+        other.name.cmp(&self.name)
+    }
+}
+
+impl PartialOrd for BackwardName {
+    ghost partial_cmp = { as_partial_cmp (flip_args (on (λ backward. backward.name.words) by_words)) };
+
+    ghost laws = { partial_order_from_own_ties (Prim.search (comparing, rules)) (Prim.search (comparing, rules)) };
+
+    fn partial_cmp(&self, other: &BackwardName) -> Option<Ordering> {
+        Some(self.cmp(other))
+    }
 }
 
 impl Key for BackwardName {
@@ -22,19 +53,11 @@ impl Key for BackwardName {
 
     ghost key = { λ words. record { name = record { words = words } } };
 
-    ghost order = { λ a b. by_words b.name.words a.name.words };
-
     ghost back = { Prim.search rules };
 
-    ghost equal = { Prim.search rules };
+    ghost equal = { Prim.search (comparing, rules) };
 
-    ghost same = { Prim.search rules };
-
-    ghost after = { Prim.search rules };
-
-    ghost before = { Prim.search rules };
-
-    ghost chained = { Prim.search rules };
+    ghost same = { Prim.search (comparing, rules) };
 
     fn to_words(self) -> Words {
         self.name.to_words()
@@ -44,12 +67,5 @@ impl Key for BackwardName {
         BackwardName {
             name: Name::from_words(stored),
         }
-    }
-
-    fn compare(self, other: BackwardName) -> Ordering
-        ensures words { result ≡ by_words other.name.words self.name.words }
-        ensures bytes { (a b : List ℕ) → IsName a → IsName b → self.name ≡ name_of a → other.name ≡ name_of b → result ≡ lexical b a }
-    {
-        other.name.compare(self.name)
     }
 }

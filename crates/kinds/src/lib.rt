@@ -10,6 +10,6 @@ mod reading;
 
 pub use backward::BackwardName;
 pub use instant::Instant;
-pub use name::Name;
+pub use name::{Name, NameText, NotAName};
 pub use order::NameOrder;
-pub use reading::Reading;
+pub use reading::{OutOfRange, Reading};

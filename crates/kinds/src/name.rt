@@ -1,96 +1,104 @@
 //! Names, kept as two words and compared by their bytes.
 
-ghost use Rattle.std.specs.Prelude.{◌≡◌, ℕ, ◌<◌, ◌≤◌, List, length, take, drop, Decides, ◌≢◌, slice_index};
+mod text;
+
+ghost use Rattle.std.specs.Prelude.{◌≡◌, ◌≤◌, ◌↔◌, ℕ, IsTrue, List, length, take};
+ghost use Rattle.std.proofs.Common.{rules};
+ghost use Rattle.std.specs.Cmp.Rules.{comparing};
+ghost use Rattle.std.specs.Ordering.{on};
 ghost use Rattle.kinds.specs.Lexical.{by_words, lexical};
 ghost use Rattle.kinds.specs.Name.{IsName, IsNameByte};
-ghost use Rattle.kinds.specs.Packed.{Checked, bytes_of, name_of, packed, padded, spelled, weighed};
-ghost use Rattle.std.proofs.Common.{rules};
+ghost use Rattle.kinds.specs.Packed.{Checked, bytes_of, front, name_of, packed, padded, spelled, weighed};
 
 use pool::Words;
 use std::cmp::Ordering;
+pub use text::NameText;
 use tree::Key;
 
 /// A name of 1 to 16 bytes, kept as two words: its bytes as digits of a number, the first the greatest, with zero bytes
 /// behind.
-#[derive(Clone, Copy)]
+#[derive(Clone, Copy, PartialEq, Eq, PartialOrd)]
 pub struct Name {
     words: Words,
 }
 
+/// Bytes that break the rule of names.
+#[derive(Clone, Copy, Debug, PartialEq, Eq)]
+pub struct NotAName;
+
 const LONGEST: usize = 16;
 
-impl Name {
-    /// The name of these bytes, if they keep the rule of names.
-    pub fn new(bytes: &[u8]) -> Option<Name>
-        ensures { Checked bytes.now result }
-    {
+impl TryFrom<&[u8]> for Name {
+    type Error = NotAName;
+
+    ghost try_from_gives = { λ bytes result. Checked bytes.now result };
+
+    #[tactic(auto, using(crate::proofs::Spelling::made_of))]
+    fn try_from(bytes: &[u8]) -> Result<Name, NotAName> {
         if is_name(bytes) {
-            Some(Name { words: pack(bytes) })
+            Ok(Name { words: pack(bytes) })
         } else {
-            None
+            Err(NotAName)
         }
     }
+}
 
-    /// The name's bytes with zero bytes behind, and how many they are.
-    pub fn text(self) -> ([u8; 16], usize)
-        ensures count { result.1 ≡ length (bytes_of self) }
-        ensures bytes { result.0 ≡ padded (bytes_of self) }
-        ensures shown { take result.1 result.0 ≡ bytes_of self }
+impl Name {
+    /// The name's bytes, which end before the first zero byte.
+    #[tactic(auto, using(crate::proofs::Writing::texts))]
+    pub fn text(self) -> NameText
+        ensures count { result.count ≡ length (bytes_of self) }
+        ensures bytes { result.bytes ≡ padded (bytes_of self) }
+        ensures shown { take result.count result.bytes ≡ bytes_of self }
     {
-        let count = self.count();
+        let mut bytes = self.spelled();
+        let count = count_before_zero(&bytes);
+        bytes[count..].fill(0);
+        NameText { bytes, count }
+    }
+
+    /// The bytes of both words.
+    #[tactic(auto, unfolding(crate::specs::Packed::spelled))]
+    fn spelled(self) -> [u8; LONGEST]
+        ensures { result ≡ spelled self }
+    {
         let mut bytes = [0; LONGEST];
-        for place in 0..count {
-            bytes[place] = self.byte(place);
-        }
-        (bytes, count)
-    }
-
-    /// How many bytes stand before the first zero byte.
-    fn count(self) -> usize
-        ensures within { result ≤ 16 }
-        ensures before { (k : ℕ) → k < result → slice_index (spelled self) k ≢ 0 }
-        ensures first { result < 16 → slice_index (spelled self) result ≡ 0 }
-    {
-        for place in 0..LONGEST {
-            if self.byte(place) == 0 {
-                return place;
-            }
-        }
-        LONGEST
-    }
-
-    fn byte(self, place: usize) -> u8
-        requires { place < 16 }
-        ensures { result ≡ slice_index (spelled self) place }
-    {
-        if place < 8 {
-            self.words.high.to_be_bytes()[place]
-        } else {
-            self.words.low.to_be_bytes()[place - 8]
-        }
+        bytes[..8].copy_from_slice(&self.words.high.to_be_bytes());
+        bytes[8..].copy_from_slice(&self.words.low.to_be_bytes());
+        bytes
     }
 }
 
 /// Names go by their bytes, a shorter prefix first. A zero byte is below every byte of a name, so that their words go
 /// the same way.
+impl Ord for Name {
+    ghost cmp = { on (λ name. name.words) by_words };
+
+    ghost total = { Prim.search (comparing, rules) };
+
+    ghost matches_partial_cmp = { Prim.search (comparing, rules) };
+
+    ghost matches_eq = { Prim.search (comparing, rules) };
+
+    #[tactic(auto, using(crate::proofs::ByBytes::names_lexical))]
+    fn cmp(&self, other: &Name) -> Ordering
+        ensures words { result ≡ by_words self.now.words other.now.words }
+        ensures bytes { (a b : List ℕ) → IsName a → IsName b → self.now ≡ name_of a → other.now ≡ name_of b → result ≡ lexical a b }
+    {
+        self.words.cmp(&other.words)
+    }
+}
+
 impl Key for Name {
     ghost words = { λ name. name.words };
 
     ghost key = { λ words. record { words = words } };
 
-    ghost order = { λ a b. by_words a.words b.words };
-
     ghost back = { Prim.search rules };
 
-    ghost equal = { Prim.search rules };
+    ghost equal = { Prim.search (comparing, rules) };
 
-    ghost same = { Prim.search rules };
-
-    ghost after = { Prim.search rules };
-
-    ghost before = { Prim.search rules };
-
-    ghost chained = { Prim.search rules };
+    ghost same = { Prim.search (comparing, rules) };
 
     fn to_words(self) -> Words {
         self.words
@@ -99,70 +107,47 @@ impl Key for Name {
     fn from_words(stored: Words) -> Name {
         Name { words: stored }
     }
-
-    fn compare(self, other: Name) -> Ordering
-        ensures words { result ≡ by_words self.words other.words }
-        ensures bytes { (a b : List ℕ) → IsName a → IsName b → self ≡ name_of a → other ≡ name_of b → result ≡ lexical a b }
-    {
-        compare_words(self.words, other.words)
-    }
 }
 
-/// By the high word, then by the low word.
-fn compare_words(a: Words, b: Words) -> Ordering
-    ensures { result ≡ by_words a b }
+/// How many bytes stand before the first zero byte.
+fn count_before_zero(bytes: &[u8]) -> usize
+    ensures { result ≡ length (front bytes.now) }
 {
-    match a.high.cmp(&b.high) {
-        Ordering::Equal => a.low.cmp(&b.low),
-        unequal => unequal,
-    }
+    bytes.iter().take_while(|byte| **byte != 0).count()
 }
 
 fn is_name(bytes: &[u8]) -> bool
-    ensures { Decides result (IsName bytes.now) }
+    ensures { IsTrue result ↔ IsName bytes.now }
 {
-    if bytes.is_empty() || bytes.len() > LONGEST {
-        return false;
-    }
-    for byte in bytes {
-        if !is_name_byte(*byte) {
-            return false;
-        }
-    }
-    true
+    !bytes.is_empty() && bytes.len() <= LONGEST && bytes.iter().copied().all(is_name_byte)
 }
 
 fn is_name_byte(byte: u8) -> bool
-    ensures { Decides result (IsNameByte byte) }
+    ensures { IsTrue result ↔ IsNameByte byte }
 {
     matches!(byte, b'A'..=b'Z' | b'0'..=b'9' | b'-')
 }
 
 /// The first 8 bytes go into the high word, the others into the low word.
+#[tactic(auto, using(crate::proofs::Packing::split))]
 fn pack(bytes: &[u8]) -> Words
+    requires { length bytes.now ≤ 16 }
     ensures { result ≡ packed bytes.now }
 {
+    let (high, low) = bytes.split_at(bytes.len().min(8));
     Words {
-        high: word_from(bytes, 0),
-        low: word_from(bytes, 8),
+        high: word_from(high),
+        low: word_from(low),
     }
 }
 
-/// The eight bytes from a place on as a number, the first the greatest.
-fn word_from(bytes: &[u8], start: usize) -> u64
-    requires { start ≤ 8 }
-    ensures { result ≡ weighed 8 (drop start bytes.now) }
+/// The bytes as a number with zero bytes behind, the first the greatest.
+#[tactic(auto, using(crate::proofs::Packing::word_weighed))]
+fn word_from(bytes: &[u8]) -> u64
+    requires { length bytes.now ≤ 8 }
+    ensures { result ≡ weighed 8 bytes.now }
 {
-    let mut word = 0;
-    for place in 0..8 {
-        word = word * 256 + byte_at(bytes, start + place) as u64;
-    }
-    word
-}
-
-/// The byte at a place. A byte past the end is 0.
-fn byte_at(bytes: &[u8], place: usize) -> u8
-    ensures { result ≡ slice_index bytes.now place }
-{
-    if place < bytes.len() { bytes[place] } else { 0 }
+    let mut word = [0; 8];
+    word[..bytes.len()].copy_from_slice(bytes);
+    u64::from_be_bytes(word)
 }

@@ -12,7 +12,12 @@ pub struct Reading {
     ghost within: { InRange microhertz },
 }
 
+/// A number outside the range of readings.
+#[derive(Clone, Copy, Debug, PartialEq, Eq)]
+pub struct OutOfRange;
+
 impl Reading {
+    /// How many microhertz. A conversion would not name the unit.
     pub fn microhertz(self) -> i64
         ensures value { result ≡ self.microhertz }
         ensures range { InRange result }

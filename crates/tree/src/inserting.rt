@@ -60,10 +60,10 @@ fn replace<V: Value>(pool: &mut Pool<'_>, node: Node, value: V) -> u16
 /// The owner of n and the owner of what the value owns become the owner of the result.
 pub fn insert<K: Key, V: Value>(pool: &mut Pool<'_>, n: u16, key: K, value: V) -> u16
     requires ready { Insertable pool.old n (V.Value.nested value) }
-    ensures owned { (t nested : Tree) (hs : List Held) → Holds pool.old (held n t ∷ held (V.Value.nested value) nested ∷ hs) → Holds pool.new (held result (inserted (compared K.Key.key K.Key.order key) (K.Key.words key) (V.Value.word value) nested t) ∷ hs) }
+    ensures owned { (t nested : Tree) (hs : List Held) → Holds pool.old (held n t ∷ held (V.Value.nested value) nested ∷ hs) → Holds pool.new (held result (inserted (compared K.Key.key K.cmp key) (K.Key.words key) (V.Value.word value) nested t) ∷ hs) }
     ensures used { (t : Tree) → Carries pool.old n t → used_of pool.new ≤ used_of pool.old + 3 * height t + 1 }
-    ensures replaced { (t : Tree) → Carries pool.old n t → Present (compared K.Key.key K.Key.order key) t → used_of pool.new ≤ used_of pool.old + 3 * height t }
-    ensures appended { (t : Tree) → Carries pool.old n t → Behind (compared K.Key.key K.Key.order key) t → used_of pool.new ≤ used_of pool.old + height t + 1 }
+    ensures replaced { (t : Tree) → Carries pool.old n t → Present (compared K.Key.key K.cmp key) t → used_of pool.new ≤ used_of pool.old + 3 * height t }
+    ensures appended { (t : Tree) → Carries pool.old n t → Behind (compared K.Key.key K.cmp key) t → used_of pool.new ≤ used_of pool.old + height t + 1 }
     ensures fresh { (node_at (memory_of pool.new) result).count ≡ 1 }
     ensures size { length (memory_of pool.new) ≡ length (memory_of pool.old) }
 {

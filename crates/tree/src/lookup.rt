@@ -56,8 +56,8 @@ fn or_at_most<K: Key, V: Value>(
 /// The value of the key.
 pub fn find<K: Key, V: Value>(pool: &Pool<'_>, root: u16, key: K) -> Option<V>
     requires { Readable pool.now root }
-    ensures answered { (t : Tree) → Carries pool.now root t → GivenValue pool.now V.Value.value (find K.Key.key K.Key.order key t) result }
-    ensures listed { (t : Tree) → Carries pool.now root t → Ascending K.Key.order (items K.Key.key t) → GivenValue pool.now V.Value.value (item_at K.Key.order key (items K.Key.key t)) result }
+    ensures answered { (t : Tree) → Carries pool.now root t → GivenValue pool.now V.Value.value (find K.Key.key K.cmp key t) result }
+    ensures listed { (t : Tree) → Carries pool.now root t → Ascending K.cmp (items K.Key.key t) → GivenValue pool.now V.Value.value (item_at K.cmp key (items K.Key.key t)) result }
 {
     if root == 0 {
         return None;
@@ -72,8 +72,8 @@ pub fn find<K: Key, V: Value>(pool: &Pool<'_>, root: u16, key: K) -> Option<V>
 /// The greatest key that is at most this one, with its value.
 pub fn at_most<K: Key, V: Value>(pool: &Pool<'_>, root: u16, key: K) -> Option<(K, V)>
     requires { Readable pool.now root }
-    ensures answered { (t : Tree) → Carries pool.now root t → GivenItem pool.now V.Value.value (at_most K.Key.key K.Key.order key t) result }
-    ensures listed { (t : Tree) → Carries pool.now root t → Ascending K.Key.order (items K.Key.key t) → GivenItem pool.now V.Value.value (last_at_most K.Key.order key (items K.Key.key t)) result }
+    ensures answered { (t : Tree) → Carries pool.now root t → GivenItem pool.now V.Value.value (at_most K.Key.key K.cmp key t) result }
+    ensures listed { (t : Tree) → Carries pool.now root t → Ascending K.cmp (items K.Key.key t) → GivenItem pool.now V.Value.value (last_at_most K.cmp key (items K.Key.key t)) result }
 {
     if root == 0 {
         return None;
@@ -87,8 +87,8 @@ pub fn at_most<K: Key, V: Value>(pool: &Pool<'_>, root: u16, key: K) -> Option<(
 /// The least key after this one, with its value.
 pub fn after<K: Key, V: Value>(pool: &Pool<'_>, root: u16, key: K) -> Option<(K, V)>
     requires { Readable pool.now root }
-    ensures answered { (t : Tree) → Carries pool.now root t → GivenItem pool.now V.Value.value (after K.Key.key K.Key.order key t) result }
-    ensures listed { (t : Tree) → Carries pool.now root t → Ascending K.Key.order (items K.Key.key t) → GivenItem pool.now V.Value.value (first_after K.Key.order key (items K.Key.key t)) result }
+    ensures answered { (t : Tree) → Carries pool.now root t → GivenItem pool.now V.Value.value (after K.Key.key K.cmp key t) result }
+    ensures listed { (t : Tree) → Carries pool.now root t → Ascending K.cmp (items K.Key.key t) → GivenItem pool.now V.Value.value (first_after K.cmp key (items K.Key.key t)) result }
 {
     if root == 0 {
         return None;
@@ -123,7 +123,7 @@ impl End {
 /// The key at this end, with its value.
 fn outermost<K: Key, V: Value>(pool: &Pool<'_>, root: u16, end: End) -> Option<(K, V)>
     requires { Readable pool.now root }
-    ensures answered { (t : Tree) → Carries pool.now root t → GivenItem pool.now V.Value.value (at_end end (first K.Key.key K.Key.order t) (last K.Key.key K.Key.order t)) result }
+    ensures answered { (t : Tree) → Carries pool.now root t → GivenItem pool.now V.Value.value (at_end end (first K.Key.key K.cmp t) (last K.Key.key K.cmp t)) result }
     ensures listed { (t : Tree) → Carries pool.now root t → GivenItem pool.now V.Value.value (at_end end (first_of (items K.Key.key t)) (last_of (items K.Key.key t))) result }
 {
     if root == 0 {
@@ -136,7 +136,7 @@ fn outermost<K: Key, V: Value>(pool: &Pool<'_>, root: u16, end: End) -> Option<(
 /// The least key, with its value.
 pub fn first<K: Key, V: Value>(pool: &Pool<'_>, root: u16) -> Option<(K, V)>
     requires { Readable pool.now root }
-    ensures answered { (t : Tree) → Carries pool.now root t → GivenItem pool.now V.Value.value (first K.Key.key K.Key.order t) result }
+    ensures answered { (t : Tree) → Carries pool.now root t → GivenItem pool.now V.Value.value (first K.Key.key K.cmp t) result }
     ensures listed { (t : Tree) → Carries pool.now root t → GivenItem pool.now V.Value.value (first_of (items K.Key.key t)) result }
 {
     outermost(pool, root, End::First)
@@ -145,7 +145,7 @@ pub fn first<K: Key, V: Value>(pool: &Pool<'_>, root: u16) -> Option<(K, V)>
 /// The greatest key, with its value.
 pub fn last<K: Key, V: Value>(pool: &Pool<'_>, root: u16) -> Option<(K, V)>
     requires { Readable pool.now root }
-    ensures answered { (t : Tree) → Carries pool.now root t → GivenItem pool.now V.Value.value (last K.Key.key K.Key.order t) result }
+    ensures answered { (t : Tree) → Carries pool.now root t → GivenItem pool.now V.Value.value (last K.Key.key K.cmp t) result }
     ensures listed { (t : Tree) → Carries pool.now root t → GivenItem pool.now V.Value.value (last_of (items K.Key.key t)) result }
 {
     outermost(pool, root, End::Last)

@@ -10,14 +10,14 @@ use std::cmp::Ordering;
 
 /// How the key compares with the key of a node.
 pub(crate) fn compare_at<K: Key>(key: K, node: Node) -> Ordering
-    ensures { result ≡ K.Key.order key (K.Key.key node.key) }
+    ensures { result ≡ K.cmp key (K.Key.key node.key) }
 {
-    key.compare(K::from_words(node.key))
+    key.cmp(&K::from_words(node.key))
 }
 
 /// Whether the key is before the key of a node.
 pub(crate) fn is_before<K: Key>(key: K, node: Node) -> bool
-    ensures { result ≡ is_lt (K.Key.order key (K.Key.key node.key)) }
+    ensures { result ≡ is_lt (K.cmp key (K.Key.key node.key)) }
 {
     compare_at(key, node).is_lt()
 }

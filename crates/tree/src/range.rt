@@ -39,10 +39,10 @@ impl Add for Total {
 
 /// What a node itself adds: its word, where its key lies in the range.
 fn own<K: Key>(node: Node, low: K, high: K) -> Total
-    ensures { (nested : Tree) → Totals (if inside K.Key.order low high (K.Key.key node.key) then item (K.Key.key node.key) node.word nested ∷ [] else []) result }
+    ensures { (nested : Tree) → Totals (if inside K.cmp low high (K.Key.key node.key) then item (K.Key.key node.key) node.word nested ∷ [] else []) result }
 {
     let key = K::from_words(node.key);
-    if low.compare(key).is_le() && key.compare(high).is_le() {
+    if low.cmp(&key).is_le() && key.cmp(&high).is_le() {
         Total {
             count: 1,
             sum: node.word,
@@ -54,16 +54,16 @@ fn own<K: Key>(node: Node, low: K, high: K) -> Total
 
 /// The left link, or 0 where no key of the left side is as great as `low`.
 fn left_from<K: Key>(node: Node, low: K) -> u16
-    ensures { result ≡ (if is_lt (K.Key.order low (K.Key.key node.key)) then node.left else 0) }
+    ensures { result ≡ (if is_lt (K.cmp low (K.Key.key node.key)) then node.left else 0) }
 {
     if is_before(low, node) { node.left } else { 0 }
 }
 
 /// The right link, or 0 where every key of the right side is past `high`.
 fn right_to<K: Key>(node: Node, high: K) -> u16
-    ensures { result ≡ (if is_lt (K.Key.order (K.Key.key node.key) high) then node.right else 0) }
+    ensures { result ≡ (if is_lt (K.cmp (K.Key.key node.key) high) then node.right else 0) }
 {
-    if K::from_words(node.key).compare(high).is_lt() {
+    if K::from_words(node.key).cmp(&high).is_lt() {
         node.right
     } else {
         0
@@ -75,9 +75,9 @@ fn right_to<K: Key>(node: Node, high: K) -> u16
 /// so that the sum is exact.
 pub fn total_between<K: Key>(pool: &Pool<'_>, root: u16, low: K, high: K) -> Total
     requires held { (hs : List Held) × Holds pool.now hs }
-    requires carried { (t : Tree) × Carries pool.now root t × (Balanced t × Ascending K.Key.order (items K.Key.key t) × AllByRecursion Modest (items K.Key.key t)) }
-    ensures answered { (t : Tree) → Carries pool.now root t → Totals (walk K.Key.order K.Key.key low high t) result }
-    ensures listed { (t : Tree) → Carries pool.now root t → Ascending K.Key.order (items K.Key.key t) → Totals (within K.Key.order low high (items K.Key.key t)) result }
+    requires carried { (t : Tree) × Carries pool.now root t × (Balanced t × Ascending K.cmp (items K.Key.key t) × AllByRecursion Modest (items K.Key.key t)) }
+    ensures answered { (t : Tree) → Carries pool.now root t → Totals (walk K.cmp K.Key.key low high t) result }
+    ensures listed { (t : Tree) → Carries pool.now root t → Ascending K.cmp (items K.Key.key t) → Totals (within K.cmp low high (items K.Key.key t)) result }
 {
     if root == 0 {
         return Total::default();

@@ -101,7 +101,7 @@ fn join_sides(pool: &mut Pool<'_>, node: Node) -> u16
 /// The owner of n becomes the owner of the result, and what the key's value owns is let go.
 pub fn remove<K: Key>(pool: &mut Pool<'_>, n: u16, key: K) -> u16
     requires ready { Removable pool.old n }
-    ensures owned { (t : Tree) (hs : List Held) → Holds pool.old (held n t ∷ hs) → Holds pool.new (held result (removed (compared K.Key.key K.Key.order key) t) ∷ hs) }
+    ensures owned { (t : Tree) (hs : List Held) → Holds pool.old (held n t ∷ hs) → Holds pool.new (held result (removed (compared K.Key.key K.cmp key) t) ∷ hs) }
     ensures used { (t : Tree) → Carries pool.old n t → used_of pool.new ≤ used_of pool.old + 3 * height t }
     ensures size { length (memory_of pool.new) ≡ length (memory_of pool.old) }
 {

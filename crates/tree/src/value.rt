@@ -3,6 +3,7 @@
 ghost use Rattle.std.specs.Prelude.{◌≡◌, ℕ, ℤ};
 
 /// A kind of value goes into a node's signed word and nested link and comes back unchanged.
+/// Its calls are no `From`: the contract of that is a relation, and the law needs functions.
 pub trait Value: Copy {
     ghost word: { Self → ℤ };
 

@@ -1,40 +1,46 @@
 //! Instants as keys, by their number.
 
 ghost use Rattle.std.specs.Prelude.{◌≡◌};
+ghost use Rattle.std.proofs.Common.{arith, rules};
+ghost use Rattle.std.specs.Cmp.Rules.{comparing};
+ghost use Rattle.std.specs.Ordering.{nat_cmp, on};
 ghost use Rattle.kinds.specs.Instant.{instant_of};
-ghost use Rattle.kinds.specs.Numeric.{numeric};
-ghost use Rattle.kinds.specs.Instants.{instant_of-seconds};
-ghost use Rattle.std.proofs.Common.{rules, arith};
 
 use crate::instant::Instant;
 use pool::Words;
 use std::cmp::Ordering;
 use tree::Key;
 
-/// Instants go by their number.
+/// Instants go by their number. A derived order would be the same, and would not say so.
+impl Ord for Instant {
+    ghost cmp = { on (λ instant. instant.seconds) nat_cmp };
+
+    ghost total = { Prim.search (comparing, rules) };
+
+    ghost matches_partial_cmp = { Prim.search (comparing, rules) };
+
+    ghost matches_eq = { Prim.search (comparing, rules) };
+
+    fn cmp(&self, other: &Instant) -> Ordering {
+        self.seconds.cmp(&other.seconds)
+    }
+}
+
 impl Key for Instant {
     ghost words = { λ instant. record { high = 0; low = instant.seconds } };
 
     ghost key = { λ words. instant_of words.low };
 
-    ghost order = { λ a b. numeric a.seconds b.seconds };
+    ghost back = { Prim.grind (arith, Self.row.coded.inj) };
 
-    ghost back = { instant_of-seconds };
+    ghost equal = { Prim.search (comparing, rules) };
 
-    ghost equal = { first_of (Prim.search rules, Prim.grind (arith, Self.row.coded.inj)) };
-
-    ghost same = { first_of (Prim.search rules, Prim.grind (arith, Self.row.coded.inj)) };
-
-    ghost after = { first_of (Prim.search rules, Prim.grind (arith, Self.row.coded.inj)) };
-
-    ghost before = { first_of (Prim.search rules, Prim.grind (arith, Self.row.coded.inj)) };
-
-    ghost chained = { first_of (Prim.search rules, Prim.grind (arith, Self.row.coded.inj)) };
+    ghost same = { Prim.search (comparing, rules) };
 
     fn to_words(self) -> Words {
         Words {
             high: 0,
-            low: self.seconds as u64,
+            low: u64::from(self.seconds),
         }
     }
 
@@ -43,9 +49,5 @@ impl Key for Instant {
         Instant {
             seconds: (stored.low % 4294967296) as u32,
         }
-    }
-
-    fn compare(self, other: Instant) -> Ordering {
-        self.seconds.cmp(&other.seconds)
     }
 }

@@ -2,24 +2,29 @@
 
 ghost use Rattle.std.specs.Prelude.{◌≡◌};
 ghost use Rattle.kinds.specs.Reading.{Checked, reading_of};
-ghost use Rattle.kinds.specs.Readings.{reading_of-microhertz};
+ghost use Rattle.std.proofs.Common.{arith};
+ghost use Rattle.std.proofs.lemmas.Int.{clamps, ints};
 
-use crate::reading::Reading;
+use crate::reading::{OutOfRange, Reading};
 use tree::Value;
 
 impl Reading {
     const LEAST: i64 = -1000000000000;
 
     const GREATEST: i64 = 1000000000000;
+}
 
-    /// A reading of that many microhertz, if they are in range.
-    pub fn new(microhertz: i64) -> Option<Reading>
-        ensures { Checked microhertz result }
-    {
-        if microhertz < Self::LEAST || microhertz > Self::GREATEST {
-            return None;
+impl TryFrom<i64> for Reading {
+    type Error = OutOfRange;
+
+    ghost try_from_gives = { Checked };
+
+    fn try_from(microhertz: i64) -> Result<Reading, OutOfRange> {
+        if (Self::LEAST..=Self::GREATEST).contains(&microhertz) {
+            Ok(Reading { microhertz })
+        } else {
+            Err(OutOfRange)
         }
-        Some(Reading { microhertz })
     }
 }
 
@@ -31,7 +36,7 @@ impl Value for Reading {
 
     ghost value = { λ word _. reading_of word };
 
-    ghost back = { reading_of-microhertz };
+    ghost back = { Prim.grind (arith, ints, clamps, Self.row.coded.inj) };
 
     fn to_word(self) -> i64 {
         self.microhertz

@@ -27,7 +27,7 @@ build-requires g t c =
 pub returns-then-n-eq0 : goal.returns-then-n-eq0
 returns-then-n-eq0 g t c =
     record {
-      owned = inserted-leaf _ _ _ c.if-n-eq0.true _ _ _ c.entry.ensures (compared g.K.Key.key g.K.Key.order c.args.key) _ _ c.build.ensures.owned;
+      owned = inserted-leaf _ _ _ c.if-n-eq0.true _ _ _ c.entry.ensures (compared g.K.Key.key g.K.Ord.cmp c.args.key) _ _ c.build.ensures.owned;
       used = λ u carries. omega (arith, c.build.ensures.used);
       replaced = λ u carries there. absurd (none-present _ _ u _ c.if-n-eq0.true carries there);
       appended = λ u carries behind. omega (arith, c.build.ensures.used);
@@ -100,11 +100,11 @@ returns-in-Less g t c =
       owned = inserted-less _ _ _ _ _ c.take_apart-node.result _ _ n e.owned _ _ _ _ less c.insert-left.ensures.owned (puts balance _ _ c.take_apart-node.result _ _ _ _ c.balance.ensures.owned (search rules));
       used = λ u carries. omega (arith, standing-height (standing d.trees) u carries, d.balanced.0, fewer, used, c.balance.ensures.grown.used);
       replaced = λ u carries there.
-          let place = compared g.K.Key.key g.K.Key.order c.args.key in
+          let place = compared g.K.Key.key g.K.Ord.cmp c.args.key in
           let side = c.insert-left.ensures.replaced _ (stood-left (standing d.trees) _ _ e.owned) (present-side d.trees _ _ e.owned u carries place Less less there) in
           omega (arith, standing-height (standing d.trees) u carries, d.balanced.0, fewer, side, c.balance.ensures.grown.used);
       appended = λ u carries behind.
-          let place = compared g.K.Key.key g.K.Key.order c.args.key in
+          let place = compared g.K.Key.key g.K.Ord.cmp c.args.key in
           absurd (not_behind d.trees _ _ e.owned place less (whole-behind d.trees u carries place behind).0);
       fresh = c.balance.ensures.grown.fresh;
       size = c.balance.ensures.grown.size ∙ c.insert-left.ensures.size ∙ e.size;
@@ -134,7 +134,7 @@ returns-in-Greater g t c =
     let fewer = apart-fewer _ _ _ (used_of c.args.pool.now) (used_of c.take_apart-node.new.self) _ _ d.trees.holds n e.node e.shared e.last in
     let carried = stood-right (standing d.trees) _ _ e.owned in
     let used = c.insert-right.ensures.used _ carried in
-    let place = compared g.K.Key.key g.K.Key.order c.args.key in
+    let place = compared g.K.Key.key g.K.Ord.cmp c.args.key in
     let greater = sym c.in-Greater.ensures in
     record {
       owned = inserted-greater _ _ _ _ _ c.take_apart-node.result _ _ n e.owned _ _ _ _ greater c.insert-right.ensures.owned (puts balance _ _ c.take_apart-node.result _ _ _ _ c.balance-in-Greater.ensures.owned (search rules));

@@ -10,8 +10,8 @@ use Rattle.tree.proofs.lookup.+after.Goals as goal
 pub returns-then-root-eq0 : goal.returns-then-root-eq0
 returns-then-root-eq0 g t c =
     let P : Option (Item g.row.K.Denot) → Type 0 = λ o. GivenItem c.args.pool.now g.V.Value.value o None in
-    let a = after_none c.args.pool.now c.args.root c.if-root-eq0.true g.K.Key.key g.K.Key.order P tt c.args.key in
-    record { answered = a; listed = after-listed (kind_of g.met.K.Key) _ _ P c.args.key a }
+    let a = after_none c.args.pool.now c.args.root c.if-root-eq0.true g.K.Key.key g.K.Ord.cmp P tt c.args.key in
+    record { answered = a; listed = after-listed (kind_of g.met.K.Key g.met.K.Ord.total) _ _ P c.args.key a }
 
 pub after-requires : goal.after-requires
 after-requires g t c κs =
@@ -29,15 +29,15 @@ pub returns-then-is_before : goal.returns-then-is_before
 returns-then-is_before g t c =
     let n : 0 < c.args.root = omega arith in
     let P : Option (Item g.row.K.Denot) → Type 0 = λ o. GivenItem c.args.pool.now g.V.Value.value o c.or_item.result in
-    let a = after-before _ _ c.requires.held _ n _ c.node-node.ensures g.K.Key.key g.K.Key.order P c.args.key _ refl (sym c.is_before.ensures ∙ c.if-is_before.true) (λ nested left right ls.
-    either-given _ g.K.Key.key g.V.Value.value _ _ _ _ ls (after g.K.Key.key g.K.Key.order c.args.key left) c.after.result c.or_item.result c.or_item.ensures
+    let a = after-before _ _ c.requires.held _ n _ c.node-node.ensures g.K.Key.key g.K.Ord.cmp P c.args.key _ refl (sym c.is_before.ensures ∙ c.if-is_before.true) (λ nested left right ls.
+    either-given _ g.K.Key.key g.V.Value.value _ _ _ _ ls (after g.K.Key.key g.K.Ord.cmp c.args.key left) c.after.result c.or_item.result c.or_item.ensures
     (c.after.ensures.answered left (side-carries _ _ _ _ _ ls Less _ c.side.ensures))) in
-    record { answered = a; listed = after-listed (kind_of g.met.K.Key) _ _ P c.args.key a }
+    record { answered = a; listed = after-listed (kind_of g.met.K.Key g.met.K.Ord.total) _ _ P c.args.key a }
 
 pub returns-else-is_before : goal.returns-else-is_before
 returns-else-is_before g t c =
     let n : 0 < c.args.root = omega arith in
     let P : Option (Item g.row.K.Denot) → Type 0 = λ o. GivenItem c.args.pool.now g.V.Value.value o c.after-else-is_before.result in
-    let a = after-past _ _ c.requires.held _ n _ c.node-node.ensures g.K.Key.key g.K.Key.order P c.args.key _ refl (sym c.is_before.ensures ∙ c.if-is_before.false) (λ nested left right ls.
+    let a = after-past _ _ c.requires.held _ n _ c.node-node.ensures g.K.Key.key g.K.Ord.cmp P c.args.key _ refl (sym c.is_before.ensures ∙ c.if-is_before.false) (λ nested left right ls.
     c.after-else-is_before.ensures.answered right (side-carries _ _ _ _ _ ls Greater _ c.side-else-is_before.ensures)) in
-    record { answered = a; listed = after-listed (kind_of g.met.K.Key) _ _ P c.args.key a }
+    record { answered = a; listed = after-listed (kind_of g.met.K.Key g.met.K.Ord.total) _ _ P c.args.key a }

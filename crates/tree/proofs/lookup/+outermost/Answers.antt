@@ -11,8 +11,8 @@ use Rattle.tree.proofs.lookup.+outermost.Goals as goal
 pub returns-then-root-eq0 : goal.returns-then-root-eq0
 returns-then-root-eq0 g t c =
     let P : Option (Item g.row.K.Denot) → Type 0 = λ o. GivenItem c.args.pool.now g.V.Value.value o None in
-    let a = outermost-none c.args.pool.now c.args.root c.if-root-eq0.true g.K.Key.key g.K.Key.order P tt c.args.end in
-    record { answered = a; listed = outermost-listed (kind_of g.met.K.Key) _ _ P c.args.end a }
+    let a = outermost-none c.args.pool.now c.args.root c.if-root-eq0.true g.K.Key.key g.K.Ord.cmp P tt c.args.end in
+    record { answered = a; listed = outermost-listed (kind_of g.met.K.Key g.met.K.Ord.total) _ _ P c.args.end a }
 
 pub outermost-requires : goal.outermost-requires
 outermost-requires g t c κs =
@@ -24,7 +24,7 @@ pub returns : goal.returns
 returns g t c =
     let n : 0 < c.args.root = omega arith in
     let P : Option (Item g.row.K.Denot) → Type 0 = λ o. GivenItem c.args.pool.now g.V.Value.value o c.or_item.result in
-    let a = outermost-by _ _ c.requires.held _ n _ c.node-node.ensures g.K.Key.key g.K.Key.order P c.args.end (λ nested left right ls.
-    either-given _ g.K.Key.key g.V.Value.value _ _ _ _ ls (at_end c.args.end (first g.K.Key.key g.K.Key.order left) (last g.K.Key.key g.K.Key.order right)) c.outermost.result c.or_item.result c.or_item.ensures
-    (outermost-given c.args.pool.now g.K.Key.key g.K.Key.order c.node-node.result nested left right ls (λ o. GivenItem c.args.pool.now g.V.Value.value o c.outermost.result) c.args.end _ c.side.ensures c.outermost.ensures.answered)) in
-    record { answered = a; listed = outermost-listed (kind_of g.met.K.Key) _ _ P c.args.end a }
+    let a = outermost-by _ _ c.requires.held _ n _ c.node-node.ensures g.K.Key.key g.K.Ord.cmp P c.args.end (λ nested left right ls.
+    either-given _ g.K.Key.key g.V.Value.value _ _ _ _ ls (at_end c.args.end (first g.K.Key.key g.K.Ord.cmp left) (last g.K.Key.key g.K.Ord.cmp right)) c.outermost.result c.or_item.result c.or_item.ensures
+    (outermost-given c.args.pool.now g.K.Key.key g.K.Ord.cmp c.node-node.result nested left right ls (λ o. GivenItem c.args.pool.now g.V.Value.value o c.outermost.result) c.args.end _ c.side.ensures c.outermost.ensures.answered)) in
+    record { answered = a; listed = outermost-listed (kind_of g.met.K.Key g.met.K.Ord.total) _ _ P c.args.end a }

@@ -11,7 +11,7 @@ use Rattle.tree.proofs.removing.+remove.Goals as goal
 pub returns-then-n-eq0 : goal.returns-then-n-eq0
 returns-then-n-eq0 g t c =
     record {
-      owned = removed-leaf (compared g.K.Key.key g.K.Key.order c.args.key) _ _ c.if-n-eq0.true;
+      owned = removed-leaf (compared g.K.Key.key g.K.Ord.cmp c.args.key) _ _ c.if-n-eq0.true;
       used = λ u carries. omega arith;
       size = refl;
     }

@@ -1,0 +1,21 @@
+//! The text of a name.
+
+ghost use Rattle.std.specs.Prelude.{◌≡◌, ◌≤◌, take};
+
+use crate::name::LONGEST;
+
+/// The bytes of a name, at most 16, with zero bytes behind.
+#[derive(Clone, Copy)]
+pub struct NameText {
+    pub(super) bytes: [u8; LONGEST],
+    pub(super) count: usize,
+    ghost within: { count ≤ 16 },
+}
+
+impl NameText {
+    pub fn as_bytes(&self) -> &[u8]
+        ensures { result.now ≡ take self.now.count self.now.bytes }
+    {
+        &self.bytes[..self.count]
+    }
+}
