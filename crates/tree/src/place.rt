@@ -19,7 +19,7 @@ pub(crate) fn compare_at<K: Key>(key: K, node: Node) -> Ordering
 pub(crate) fn is_before<K: Key>(key: K, node: Node) -> bool
     ensures { result ≡ is_lt (K.cmp key (K.Key.key node.key)) }
 {
-    compare_at(key, node).is_lt()
+    key < K::from_words(node.key)
 }
 
 /// The side of the keys that compare so with the key of a node; that key itself is on neither.

@@ -42,7 +42,7 @@ fn own<K: Key>(node: Node, low: K, high: K) -> Total
     ensures { (nested : Tree) → Totals (if inside K.cmp low high (K.Key.key node.key) then item (K.Key.key node.key) node.word nested ∷ [] else []) result }
 {
     let key = K::from_words(node.key);
-    if low.cmp(&key).is_le() && key.cmp(&high).is_le() {
+    if low <= key && key <= high {
         Total {
             count: 1,
             sum: node.word,
@@ -63,7 +63,7 @@ fn left_from<K: Key>(node: Node, low: K) -> u16
 fn right_to<K: Key>(node: Node, high: K) -> u16
     ensures { result ≡ (if is_lt (K.cmp (K.Key.key node.key) high) then node.right else 0) }
 {
-    if K::from_words(node.key).cmp(&high).is_lt() {
+    if K::from_words(node.key) < high {
         node.right
     } else {
         0
