@@ -1,10 +1,11 @@
 //! Instants as keys, by their number.
 
 ghost use Rattle.std.specs.Prelude.{◌≡◌};
-ghost use Rattle.std.proofs.Common.{arith, rules};
+ghost use Rattle.std.proofs.Common.{rules};
 ghost use Rattle.std.specs.Cmp.Rules.{comparing};
 ghost use Rattle.std.specs.Ordering.{nat_cmp, on};
 ghost use Rattle.kinds.specs.Instant.{instant_of};
+ghost use Rattle.kinds.specs.Instants.{instant_of-seconds};
 
 use crate::instant::Instant;
 use pool::Words;
@@ -31,7 +32,7 @@ impl Key for Instant {
 
     ghost key = { λ words. instant_of words.low };
 
-    ghost back = { Prim.grind (arith, Self.row.coded.inj) };
+    ghost back = { instant_of-seconds };
 
     ghost equal = { Prim.search (comparing, rules) };
 

@@ -2,8 +2,7 @@
 
 ghost use Rattle.std.specs.Prelude.{◌≡◌};
 ghost use Rattle.kinds.specs.Reading.{Checked, reading_of};
-ghost use Rattle.std.proofs.Common.{arith};
-ghost use Rattle.std.proofs.lemmas.Int.{clamps, ints};
+ghost use Rattle.kinds.specs.Readings.{reading_of-microhertz};
 
 use crate::reading::{OutOfRange, Reading};
 use tree::Value;
@@ -36,7 +35,7 @@ impl Value for Reading {
 
     ghost value = { λ word _. reading_of word };
 
-    ghost back = { Prim.grind (arith, ints, clamps, Self.row.coded.inj) };
+    ghost back = { reading_of-microhertz };
 
     fn to_word(self) -> i64 {
         self.microhertz
