@@ -15,7 +15,7 @@ name-byte-below : (b : ℕ) → IsNameByte b → b < 256
 name-byte-below b rule = grind arith
 
 allowed : (xs : List ℕ) → IsName xs → AllByRecursion IsNameByte xs
-allowed xs rule = All-from_get_or IsNameByte xs 0 rule.2
+allowed xs rule = All-from_get_or IsNameByte xs 0 (λ place h. rule.2 place 0 h)
 
 pub positive : (xs : List ℕ) → IsName xs → AllByRecursion (λ x. 0 < x) xs
 positive xs rule = All-weaker IsNameByte (λ x. 0 < x) name-byte-positive xs (allowed xs rule)
