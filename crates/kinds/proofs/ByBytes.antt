@@ -1,5 +1,5 @@
 -- The order of two names' words is the order of their bytes, as in a dictionary.
-use Rattle.std.proofs.Common.{◌≡◌, ℕ, zero, suc, ◌+◌, ◌*◌, ◌^◌, ◌<◌, ◌≤◌, List, [], ◌∷◌, drop, Ordering, Less, Equal, Greater, sym, refl, ap, ◌∙◌, mul-le-mul_right, add-mul, arith}
+use Rattle.std.proofs.Common.{◌≡◌, ℕ, zero, suc, ◌+◌, ◌*◌, ◌^◌, ◌<◌, List, [], ◌∷◌, drop, Ordering, Less, Equal, Greater, sym, refl, ap, ◌∙◌, mul-le-mul_right, arith}
 use Rattle.std.proofs.lemmas.Bool.Decides.{nat_tests}
 use Rattle.std.proofs.lemmas.Cmp.{by_ranked, ranked}
 use Rattle.std.specs.Cmp.{nat_cmp_is}
@@ -7,8 +7,7 @@ use Rattle.std.specs.List.{AllByRecursion}
 use Rattle.std.specs.Ordering.{nat_cmp, ordering_then}
 use Rattle.kinds.specs.Lexical.{by_words, lexical}
 use Rattle.kinds.specs.Name.{IsName}
-use Rattle.kinds.specs.Packed.{name_of, packed, weighed}
-use Rattle.kinds.specs.declared.name.Name.{Name}
+use Rattle.kinds.specs.Packed.{packed, weighed}
 use Rattle.kinds.proofs.Packing.{Bytes, places-pos, weighed-below}
 use Rattle.kinds.proofs.Spelling.{positive, bytes, positive-behind, bytes-behind, nothing-behind}
 
@@ -26,23 +25,14 @@ nat_cmp-shift : (m a b : ℕ) → nat_cmp (m + a) (m + b) ≡ nat_cmp a b
 nat_cmp-shift m a b = grind (arith, nat_tests)
 
 then-equal : (o : Ordering) → ordering_then o Equal ≡ o
-then-equal Less = refl
-then-equal Equal = refl
-then-equal Greater = refl
+then-equal o = grind arith
 
 -- a greater first byte outweighs all behind it
 outweighs : (k x y : ℕ) (xs ys : List ℕ) → x < y → Bytes xs → x * 256 ^ k + weighed k xs < y * 256 ^ k + weighed k ys
-outweighs k x y xs ys less all =
-    let rest = weighed-below k xs all in
-    let most : (x + 1) * 256 ^ k ≤ y * 256 ^ k = mul-le-mul_right (256 ^ k) (omega arith) in
-    let spread = add-mul x 1 (256 ^ k) in
-    omega arith
+outweighs k x y xs ys less all = grind (arith, weighed-below, mul-le-mul_right)
 
 weighs : (k x : ℕ) (xs : List ℕ) → 0 < x → 0 < x * 256 ^ k + weighed k xs
-weighs k x xs some =
-    let place = places-pos k in
-    let most : 1 * 256 ^ k ≤ x * 256 ^ k = mul-le-mul_right (256 ^ k) (omega arith) in
-    omega arith
+weighs k x xs some = grind (arith, places-pos)
 
 -- the first places by their number, then what is behind them
 weighed-lexical : (k : ℕ) (xs ys : List ℕ) → AllByRecursion (λ x. 0 < x) xs → Bytes xs → AllByRecursion (λ y. 0 < y) ys → Bytes ys
@@ -68,6 +58,4 @@ packed-lexical xs ys x y =
     let low : nat_cmp (weighed 8 (drop 8 xs)) (weighed 8 (drop 8 ys)) ≡ lexical (drop 8 xs) (drop 8 ys) = sym (then-equal _) ∙ ended in
     ap (ordering_then (nat_cmp (weighed 8 xs) (weighed 8 ys))) low ∙ weighed-lexical 8 xs ys (positive xs x) (bytes xs x) (positive ys y) (bytes ys y)
 
-pub names_lexical : (a b : Name) (xs ys : List ℕ) → IsName xs → IsName ys → a ≡ name_of xs → b ≡ name_of ys → by_words a.words b.words ≡ lexical xs ys
-names_lexical a b xs ys x y p q =
-    ap (λ (n : Name). by_words n.words b.words) p ∙ ap (λ (n : Name). by_words (packed xs) n.words) q ∙ packed-lexical xs ys x y
+pub ruleset ordered = (packed-lexical)

@@ -1,22 +1,21 @@
 -- A name stands for the bytes that it was made of.
-use Rattle.std.proofs.Common.{◌≡◌, ℕ, ◌<◌, List, [], drop, Ok, sym, ap, ◌∙◌, ⊎_elim, append-nil, arith, length-drop}
 use Rattle.std.proofs.ByRecursion.{All-drop, All-from_get_or, All-weaker}
+use Rattle.std.proofs.Common.{◌≡◌, ℕ, ◌<◌, List, [], drop, sym, ap, ◌∙◌, append-nil, arith}
 use Rattle.std.proofs.lemmas.List.{drop_all}
 use Rattle.std.specs.Int.{to_be_bytes, w64}
 use Rattle.std.specs.List.{AllByRecursion}
-use Rattle.kinds.specs.declared.name.Name.{Name}
 use Rattle.kinds.specs.Name.{IsNameByte, IsName}
-use Rattle.kinds.specs.Packed.{Checked, name_of, bytes_of, packed, spelled, weighed, front}
+use Rattle.kinds.specs.Packed.{name_of, bytes_of, spelled, weighed, front}
 use Rattle.kinds.proofs.Packing.{Bytes, front-bytes}
 
-pub name-byte-positive : (b : ℕ) → IsNameByte b → 0 < b
-name-byte-positive b = ⊎_elim (λ h. omega arith) (⊎_elim (λ h. omega arith) (λ h. omega arith))
+name-byte-positive : (b : ℕ) → IsNameByte b → 0 < b
+name-byte-positive b rule = omega arith
 
-pub name-byte-below : (b : ℕ) → IsNameByte b → b < 256
-name-byte-below b = ⊎_elim (λ h. omega arith) (⊎_elim (λ h. omega arith) (λ h. omega arith))
+name-byte-below : (b : ℕ) → IsNameByte b → b < 256
+name-byte-below b rule = grind arith
 
 allowed : (xs : List ℕ) → IsName xs → AllByRecursion IsNameByte xs
-allowed xs rule = All-from_get_or IsNameByte xs 0 rule.2
+allowed xs rule = All-from_get_or IsNameByte xs 0 (λ place h. rule.2 place 0 h)
 
 pub positive : (xs : List ℕ) → IsName xs → AllByRecursion (λ x. 0 < x) xs
 positive xs rule = All-weaker IsNameByte (λ x. 0 < x) name-byte-positive xs (allowed xs rule)
@@ -32,7 +31,7 @@ pub bytes-behind : (xs : List ℕ) → IsName xs → Bytes (drop 8 xs)
 bytes-behind xs rule = All-drop (λ x. x < 256) 8 xs (bytes xs rule)
 
 pub nothing-behind : (xs : List ℕ) → IsName xs → drop 8 (drop 8 xs) ≡ []
-nothing-behind xs rule = drop_all 8 (drop 8 xs) (simp length-drop (let most = rule.1 in omega arith))
+nothing-behind xs rule = drop_all 8 (drop 8 xs) (let most = rule.1 in grind arith)
 
 pub bytes_of-name_of : (xs : List ℕ) → IsName xs → bytes_of (name_of xs) ≡ xs
 unfolding spelled
@@ -44,9 +43,6 @@ bytes_of-name_of xs rule =
 
 -- two names are one exactly when their bytes are the same
 pub name_of-once : (xs ys : List ℕ) → IsName xs → IsName ys → name_of xs ≡ name_of ys → xs ≡ ys
-name_of-once xs ys x y same = sym (bytes_of-name_of xs x) ∙ ap bytes_of same ∙ bytes_of-name_of ys y
+name_of-once xs ys x y same = grind (arith, bytes_of-name_of)
 
-pub made_of : (xs : List ℕ) (name : Name) → IsName xs → name.words ≡ packed xs → Checked xs (Ok name)
-made_of xs name rule same =
-    let whole : name ≡ name_of xs = ap (λ words. record { words = words }) same in
-    (rule, whole, ap bytes_of whole ∙ bytes_of-name_of xs rule)
+pub ruleset checked = (bytes_of-name_of)

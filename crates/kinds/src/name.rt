@@ -33,7 +33,7 @@ impl TryFrom<&[u8]> for Name {
 
     ghost try_from_gives = { λ bytes result. Checked bytes.now result };
 
-    #[tactic(auto, using(crate::proofs::Spelling::made_of))]
+    #[tactic(auto, using(crate::proofs::Spelling::checked))]
     fn try_from(bytes: &[u8]) -> Result<Name, NotAName> {
         if is_name(bytes) {
             Ok(Name { words: pack(bytes) })
@@ -80,7 +80,7 @@ impl Ord for Name {
 
     ghost matches_eq = { Prim.search (comparing, rules) };
 
-    #[tactic(auto, using(crate::proofs::ByBytes::names_lexical))]
+    #[tactic(auto, using(crate::proofs::ByBytes::ordered))]
     fn cmp(&self, other: &Name) -> Ordering
         ensures words { result ≡ by_words self.now.words other.now.words }
         ensures bytes { (a b : List ℕ) → IsName a → IsName b → self.now ≡ name_of a → other.now ≡ name_of b → result ≡ lexical a b }
@@ -129,7 +129,7 @@ fn is_name_byte(byte: u8) -> bool
 }
 
 /// The first 8 bytes go into the high word, the others into the low word.
-#[tactic(auto, using(crate::proofs::Packing::split))]
+#[tactic(auto, using(crate::proofs::Packing::halves))]
 fn pack(bytes: &[u8]) -> Words
     requires { length bytes.now ≤ 16 }
     ensures { result ≡ packed bytes.now }
