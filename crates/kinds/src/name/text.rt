@@ -7,8 +7,8 @@ use crate::name::LONGEST;
 /// The bytes of a name, at most 16, with zero bytes behind.
 #[derive(Clone, Copy)]
 pub struct NameText {
-    pub(super) bytes: [u8; LONGEST],
-    pub(super) count: usize,
+    pub bytes: [u8; LONGEST],
+    pub count: usize,
     ghost within: { count ≤ 16 },
 }
 
