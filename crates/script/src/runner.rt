@@ -8,7 +8,7 @@ ghost use Rattle.report.specs.Report.{lender, capacity, used, text, LineAdded, L
 ghost use Rattle.script.specs.Runs.{opened_on, retired_on, answered, cleared};
 ghost use Rattle.script.specs.Scripts.{refusals, answer_line, report_of, RanLines, Finished, TooLong, Reported};
 
-use crate::answer::{Answer, answer_to, counted};
+use crate::answer::{Reply, counted, write_answer};
 use crate::command::{Command, read_command};
 use crate::lexer::Lexer;
 use crate::lines::line_end;
@@ -41,10 +41,7 @@ fn end_line(register: &mut Register<'_>, line: Line)
     requires { at_rest (shown register.old) line ≡ true }
     ensures { shown register.new ≡ (retired (shown register.old) line).1 }
 {
-    match register.retire(line) {
-        Ok(()) => {}
-        Err(_refused) => unreachable(),
-    }
+    register.retire(line).unwrap();
 }
 
 /// Opens a line and stows it on the shelf. A line whose stowing is refused is retired.
@@ -52,18 +49,12 @@ fn open_on(register: &mut Register<'_>, shelf: u8) -> Result<(), Refusal>
     ensures answer { result ≡ (opened_on (shown register.old) shelf).0 }
     ensures after { shown register.new ≡ (opened_on (shown register.old) shelf).1 }
 {
-    let line = match register.open_line() {
-        Ok(line) => line,
-        Err(why) => return Err(why),
-    };
-    match register.stow(line, shelf) {
-        Ok(()) => Ok(()),
-        Err(refused) => {
-            let Refused { handle, why } = refused;
-            end_line(register, handle);
-            Err(why)
-        }
+    let line = register.open_line()?;
+    if let Err(Refused { handle, why }) = register.stow(line, shelf) {
+        end_line(register, handle);
+        return Err(why);
     }
+    Ok(())
 }
 
 /// Retires the line of the shelf.
@@ -71,25 +62,22 @@ fn retire_on(register: &mut Register<'_>, shelf: u8) -> Result<(), Refusal>
     ensures answer { result ≡ (retired_on (shown register.old) shelf).0 }
     ensures after { shown register.new ≡ (retired_on (shown register.old) shelf).1 }
 {
-    let line = match register.fetch(shelf) {
-        Ok(line) => line,
-        Err(why) => return Err(why),
-    };
+    let line = register.fetch(shelf)?;
     end_line(register, line);
     Ok(())
 }
 
 /// Carries out the command of a line.
-fn answer(register: &mut Register<'_>, fields: Lexer<'_>) -> Answer
+fn answer(register: &mut Register<'_>, fields: Lexer<'_>) -> Result<Reply, Refusal>
     ensures answer { result ≡ (answered (shown register.old) (left fields.entry)).0 }
     ensures after { shown register.new ≡ (answered (shown register.old) (left fields.entry)).1 }
 {
-    match read_command(fields) {
-        None => Answer::Declined(Refusal::Unreadable),
-        Some(Command::Open { shelf }) => answer_to(open_on(register, shelf)),
-        Some(Command::Retire { shelf }) => answer_to(retire_on(register, shelf)),
-        Some(Command::Tally) => Answer::Counted(register.tally()),
+    match read_command(fields).ok_or(Refusal::Unreadable)? {
+        Command::Open { shelf } => open_on(register, shelf)?,
+        Command::Retire { shelf } => retire_on(register, shelf)?,
+        Command::Tally => return Ok(Reply::Counted(register.tally())),
     }
+    Ok(Reply::Done)
 }
 
 /// Retires the lines of all shelves.
@@ -115,8 +103,8 @@ fn run_line(
     ensures lined { MatchResult result (λ _. LineAdded report.old (answer_line number (shown register.old) (left fields.entry)) report.new) (λ _. LineRefused report.old (answer_line number (shown register.old) (left fields.entry)) report.new) }
 {
     let answer = answer(register, fields);
-    answer.write(number, report)?;
-    if answer.is_declined() { Ok(1) } else { Ok(0) }
+    write_answer(report, number, answer)?;
+    Ok(u32::from(answer.is_err()))
 }
 
 /// Carries out the lines of the script and reports each, up to the first whose report line does not fit.
