@@ -7,7 +7,7 @@ use crate::refusal::Refusal;
 use std::marker::PhantomData;
 
 /// The serial of a spent handle: no line ever has it.
-pub const SPENT: u32 = 4294967295;
+pub const SPENT: u32 = u32::MAX;
 
 /// The handle of a line that is in the state `S`.
 pub struct Handle<S> {
@@ -16,13 +16,11 @@ pub struct Handle<S> {
     state: PhantomData<S>,
 }
 
-/// The line is at rest.
-#[derive(Drop)]
-pub struct Resting;
+/// The state of a line that is at rest.
+pub enum Resting {}
 
-/// The line is in a sitting.
-#[derive(Drop)]
-pub struct InSitting;
+/// The state of a line in a sitting.
+pub enum InSitting {}
 
 /// A line at rest.
 pub type Line = Handle<Resting>;

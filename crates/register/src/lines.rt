@@ -5,14 +5,14 @@ ghost use Rattle.std.specs.Result.{result_err};
 ghost use Rattle.register.specs.Lines.{opened, stowed, stow_declined, fetched, retired};
 ghost use Rattle.register.specs.Shown.{shown, newly_made};
 
-use crate::handle::{Line, Refused};
+use crate::handle::{Line, Refused, SPENT};
 use crate::refusal::Refusal;
 use crate::register::Register;
 use crate::table::{State, Table};
 use pool::{Node, Pool};
 
 /// The last serial that a line can have.
-const LAST_SERIAL: u32 = 4294967294;
+const LAST_SERIAL: u32 = SPENT - 1;
 
 impl<'m> Register<'m> {
     /// A register over this memory, with all nodes and lines free and all shelves empty.
