@@ -2,11 +2,10 @@
 
 #![tactic(auto)]
 
-ghost use Rattle.std.specs.Prelude.{◌≤◌, length, IfOk};
+ghost use Rattle.std.specs.Prelude.{◌≤◌, IfOk, vec_len};
 
 use anyhow::anyhow;
 use pool::Node;
-use register::Refusal;
 use script::{Stopped, run};
 use std::io;
 use std::io::{Read, Write};
@@ -19,44 +18,32 @@ const REPORT_BYTES: usize = 65536;
 /// One byte more than the longest script, so that a longer one shows.
 const SCRIPT_BYTES: usize = 32769;
 
-/// Reads standard input up to its end or until the buffer is full, and gives how many bytes came.
-fn read_script(rt: &HostRuntime, script: &mut [u8]) -> io::Result<usize>
-    ensures { IfOk result (λ n. n ≤ length script.new) }
+/// Reads standard input up to its end, or as many bytes as show that the script is too long.
+fn read_script(rt: &HostRuntime) -> io::Result<Vec<u8>>
+    ensures { IfOk result (λ script. vec_len script ≤ 32769) }
 {
-    let mut input = rt.stdin();
-    let mut read = 0;
-    while read < script.len() {
-        let count = input.read(&mut script[read..])?;
-        if count == 0 {
-            break;
-        }
-        read += count;
-    }
-    Ok(read)
-}
-
-/// Why a run stopped, in words.
-fn reason(why: Refusal) -> &'static str {
-    match why {
-        Refusal::ScriptTooLong => "refused (17): the script has more than 32,768 bytes",
-        _ => "refused (20): the report does not fit",
-    }
+    let mut script = Vec::new(rt.alloc());
+    rt.stdin()
+        .take(SCRIPT_BYTES as u64)
+        .read_to_end(&mut script)?;
+    // `take` leaves nothing to cut off, which `read_to_end` does not promise.
+    script.truncate(SCRIPT_BYTES);
+    Ok(script)
 }
 
 /// Prints the report of the script; a refusal is an error after the report's whole lines.
 fn audit(rt: &HostRuntime) -> anyhow::Result<()> {
-    let mut script = [0; SCRIPT_BYTES];
-    let length = read_script(rt, &mut script)?;
+    let script = read_script(rt)?;
     let mut nodes = [Node::default(); NODES];
     let mut report = [0; REPORT_BYTES];
-    match run(&script[0..length], &mut nodes, FIRST_SERIAL, &mut report) {
+    match run(&script, &mut nodes, FIRST_SERIAL, &mut report) {
         Ok(length) => {
-            rt.stdout().write_all(&report[0..length])?;
+            rt.stdout().write_all(&report[..length])?;
             Ok(())
         }
         Err(Stopped { length, why }) => {
-            rt.stdout().write_all(&report[0..length])?;
-            Err(anyhow!("{}", reason(why)))
+            rt.stdout().write_all(&report[..length])?;
+            Err(anyhow!("refused ({}): {why}", u8::from(why)))
         }
     }
 }

@@ -6,10 +6,7 @@ use std::test::Fail;
 
 /// Opens a line and gives its handle's numbers.
 fn open_line(register: &mut Register<'_>) -> Result<(u32, u32), Refusal> {
-    match register.open_line() {
-        Ok(line) => Ok(line.into_parts()),
-        Err(why) => Err(why),
-    }
+    register.open_line().map(Line::into_parts)
 }
 
 /// Stows the line of this handle, and gives the number of the refusal, or 0.
@@ -18,7 +15,7 @@ fn stow(register: &mut Register<'_>, place: u32, serial: u32, letter: u8) -> u8 
         Ok(()) => 0,
         Err(Refused { handle, why }) => {
             let _ = handle.into_parts();
-            why.number()
+            u8::from(why)
         }
     }
 }
@@ -30,7 +27,7 @@ fn fetch(register: &mut Register<'_>, letter: u8) -> u8 {
             let _ = line.into_parts();
             0
         }
-        Err(why) => why.number(),
+        Err(why) => u8::from(why),
     }
 }
 

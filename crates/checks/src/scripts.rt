@@ -8,7 +8,7 @@ fn outcome(script: &[u8], out: &mut [u8]) -> (usize, u8) {
     let mut nodes = [Node::default(); 8];
     match run(script, &mut nodes, 1, out) {
         Ok(length) => (length, 0),
-        Err(stopped) => (stopped.length, stopped.why.number()),
+        Err(stopped) => (stopped.length, u8::from(stopped.why)),
     }
 }
 

@@ -1,4 +1,5 @@
 pub mod Refusals
+pub mod Handles
 pub mod Tables
 pub mod Shown
 pub mod Lines

@@ -4,34 +4,53 @@
 ghost use Rattle.std.specs.Prelude.{◌≡◌};
 
 use crate::refusal::Refusal;
+use std::marker::PhantomData;
 
 /// The serial of a spent handle: no line ever has it.
-pub const SPENT: u32 = 4294967295;
+pub const SPENT: u32 = u32::MAX;
 
-/// A line at rest.
-pub struct Line {
+/// The handle of a line that is in the state `S`.
+pub struct Handle<S> {
     place: u32,
     serial: u32,
+    state: PhantomData<S>,
 }
 
-impl Drop for Line {
+/// The state of a line that is at rest.
+pub enum Resting {}
+
+/// The state of a line in a sitting.
+pub enum InSitting {}
+
+/// A line at rest.
+pub type Line = Handle<Resting>;
+
+/// A line in a sitting.
+pub type Sitting = Handle<InSitting>;
+
+impl<S> Drop for Handle<S> {
     fn drop(self)
         requires { self.serial ≡ 4294967295 }
     {
-        let Line {
+        let Handle {
             place: _,
             serial: _,
+            state: _,
         } = self;
     }
 }
 
-impl Line {
+impl<S> Handle<S> {
     /// The handle of these two numbers, whether or not a line has it.
-    pub fn from_parts(place: u32, serial: u32) -> Line
+    pub fn from_parts(place: u32, serial: u32) -> Handle<S>
         ensures place { result.place ≡ place }
         ensures serial { result.serial ≡ serial }
     {
-        Line { place, serial }
+        Handle {
+            place,
+            serial,
+            state: PhantomData,
+        }
     }
 
     /// The handle's numbers; the handle is no more.
@@ -39,7 +58,11 @@ impl Line {
         ensures place { result.0 ≡ self.place }
         ensures serial { result.1 ≡ self.serial }
     {
-        let Line { place, serial } = self;
+        let Handle {
+            place,
+            serial,
+            state: _,
+        } = self;
         (place, serial)
     }
 
@@ -53,42 +76,6 @@ impl Line {
         ensures { result ≡ self.now.serial }
     {
         self.serial
-    }
-}
-
-/// A line in a sitting.
-pub struct Sitting {
-    place: u32,
-    serial: u32,
-}
-
-impl Drop for Sitting {
-    fn drop(self)
-        requires { self.serial ≡ 4294967295 }
-    {
-        let Sitting {
-            place: _,
-            serial: _,
-        } = self;
-    }
-}
-
-impl Sitting {
-    /// The handle of these two numbers, whether or not a sitting has it.
-    pub fn from_parts(place: u32, serial: u32) -> Sitting
-        ensures place { result.place ≡ place }
-        ensures serial { result.serial ≡ serial }
-    {
-        Sitting { place, serial }
-    }
-
-    /// The handle's numbers; the handle is no more.
-    pub fn into_parts(self) -> (u32, u32)
-        ensures place { result.0 ≡ self.place }
-        ensures serial { result.1 ≡ self.serial }
-    {
-        let Sitting { place, serial } = self;
-        (place, serial)
     }
 }
 

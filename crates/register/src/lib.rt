@@ -9,7 +9,7 @@ mod refusal;
 mod register;
 mod table;
 
-pub use handle::{Line, Refused, Sitting};
+pub use handle::{Handle, InSitting, Line, Refused, Resting, Sitting};
 pub use questions::Tally;
 pub use refusal::Refusal;
 pub use register::Register;

@@ -1,17 +1,18 @@
 //! Opening, stowing, fetching and retiring lines.
 
 ghost use Rattle.std.specs.Prelude.{◌≡◌, min, true, length, is_err};
+ghost use Rattle.std.specs.Result.{result_err};
 ghost use Rattle.register.specs.Lines.{opened, stowed, stow_declined, fetched, retired};
 ghost use Rattle.register.specs.Shown.{shown, newly_made};
 
-use crate::handle::{Line, Refused};
+use crate::handle::{Line, Refused, SPENT};
 use crate::refusal::Refusal;
 use crate::register::Register;
-use crate::table::{Record, State, Table};
+use crate::table::{State, Table};
 use pool::{Node, Pool};
 
 /// The last serial that a line can have.
-const LAST_SERIAL: u32 = 4294967294;
+const LAST_SERIAL: u32 = SPENT - 1;
 
 impl<'m> Register<'m> {
     /// A register over this memory, with all nodes and lines free and all shelves empty.
@@ -33,37 +34,31 @@ impl<'m> Register<'m> {
         ensures nodes { self.new.pool ≡ self.old.pool }
         ensures same { is_err result ≡ true → self.new ≡ self.old }
     {
-        let Some(place) = self.table.find(State::Free) else {
-            return Err(Refusal::LinesExhausted);
-        };
+        let place = self.table.vacancy().ok_or(Refusal::LinesExhausted)?;
         let serial = self.next;
         if serial > LAST_SERIAL {
             return Err(Refusal::SerialsExhausted);
         }
-        self.table.put(
-            place,
-            Record {
-                serial,
-                state: State::AtRest,
-            },
-        );
+        let line = Line::from_parts(place as u32, serial);
+        self.table.put(&line, State::AtRest);
         self.next = serial + 1;
-        Ok(Line::from_parts(place, serial))
+        Ok(line)
     }
 
-    fn stow_refusal(&self, line: &Line, letter: u8) -> Option<Refusal>
-        ensures { result ≡ stow_declined (shown self.now) line.now letter }
+    /// Whether this line may be laid on this shelf.
+    fn may_stow(&self, line: &Line, letter: u8) -> Result<(), Refusal>
+        ensures { result_err result ≡ stow_declined (shown self.now) line.now letter }
     {
-        if !self.table.has(line.place(), line.serial(), State::AtRest) {
-            return Some(Refusal::NoSuchLine);
+        if !self.table.has(line, State::AtRest) {
+            return Err(Refusal::NoSuchLine);
         }
         if !letter.is_ascii_uppercase() {
-            return Some(Refusal::NotAShelf);
+            return Err(Refusal::NotAShelf);
         }
-        if self.table.find(State::Stowed(letter)).is_some() {
-            return Some(Refusal::ShelfTaken);
+        if self.table.place_in(State::Stowed(letter)).is_some() {
+            return Err(Refusal::ShelfTaken);
         }
-        None
+        Ok(())
     }
 
     /// Lays a line at rest on a shelf.
@@ -73,17 +68,11 @@ impl<'m> Register<'m> {
         ensures nodes { self.new.pool ≡ self.old.pool }
         ensures same { is_err result ≡ true → self.new ≡ self.old }
     {
-        if let Some(why) = self.stow_refusal(&line, letter) {
+        if let Err(why) = self.may_stow(&line, letter) {
             return Err(Refused { handle: line, why });
         }
-        let (place, serial) = line.into_parts();
-        self.table.put(
-            place,
-            Record {
-                serial,
-                state: State::Stowed(letter),
-            },
-        );
+        self.table.put(&line, State::Stowed(letter));
+        let _ = line.into_parts();
         Ok(())
     }
 
@@ -97,18 +86,12 @@ impl<'m> Register<'m> {
         if !letter.is_ascii_uppercase() {
             return Err(Refusal::NotAShelf);
         }
-        let Some(place) = self.table.find(State::Stowed(letter)) else {
-            return Err(Refusal::ShelfEmpty);
-        };
-        let serial = self.table.at(place).serial;
-        self.table.put(
-            place,
-            Record {
-                serial,
-                state: State::AtRest,
-            },
-        );
-        Ok(Line::from_parts(place, serial))
+        let line = self
+            .table
+            .find(State::Stowed(letter))
+            .ok_or(Refusal::ShelfEmpty)?;
+        self.table.put(&line, State::AtRest);
+        Ok(line)
     }
 
     /// Ends a line at rest.
@@ -118,20 +101,13 @@ impl<'m> Register<'m> {
         ensures nodes { self.new.pool ≡ self.old.pool }
         ensures same { is_err result ≡ true → self.new ≡ self.old }
     {
-        if !self.table.has(line.place(), line.serial(), State::AtRest) {
+        if !self.table.has(&line, State::AtRest) {
             return Err(Refused {
                 handle: line,
                 why: Refusal::NoSuchLine,
             });
         }
-        let (place, _) = line.into_parts();
-        self.table.put(
-            place,
-            Record {
-                serial: 0,
-                state: State::Free,
-            },
-        );
+        self.table.free(line);
         Ok(())
     }
 }

@@ -1,13 +1,15 @@
-//! The table of lines: 64 records, changed one at a time, and only here.
+//! The table of lines: 64 places, changed one at a time, and only here.
 
-ghost use Rattle.std.specs.Prelude.{◌≡◌, ◌<◌, length, IfSome, slice_index_or, slice_set};
-ghost use Rattle.register.specs.Tables.{same_state, vacant, all_free, lowest, has, live};
+ghost use Rattle.std.specs.Prelude.{◌≡◌, ◌<◌, length, IfSome, slice_set};
+ghost use Rattle.std.specs.Option.{option_map};
+ghost use Rattle.register.specs.Handles.{handle_of};
+ghost use Rattle.register.specs.Tables.{all_free, lowest_free, lowest, serial_at, has, live};
 
-/// What a line is doing.
+use crate::handle::Line;
+
+/// What a live line is doing.
 #[derive(Clone, Copy, PartialEq, Eq)]
 pub enum State {
-    /// The place has no line.
-    Free,
     /// A caller holds the line's handle.
     AtRest,
     /// A caller holds the handle of a sitting on the line.
@@ -16,25 +18,17 @@ pub enum State {
     Stowed(u8),
 }
 
-impl State {
-    pub fn is(self, other: State) -> bool
-        ensures { result ≡ same_state self other }
-    {
-        self == other
-    }
-}
-
-/// One place of the table: its line's serial, and what the line is doing.
-#[derive(Clone, Copy)]
+/// A live line's serial, and what the line is doing.
+#[derive(Clone, Copy, PartialEq, Eq)]
 pub struct Record {
     pub serial: u32,
     pub state: State,
 }
 
-/// The 64 places.
+/// The 64 places, each free or with the record of a live line.
 #[derive(Drop)]
 pub struct Table {
-    lines: [Record; 64],
+    lines: [Option<Record>; 64],
     ghost sized: { length lines ≡ 64 },
 }
 
@@ -43,63 +37,67 @@ impl Table {
     pub fn new() -> Table
         ensures { result.lines ≡ all_free }
     {
-        Table {
-            lines: [Record {
-                serial: 0,
-                state: State::Free,
-            }; 64],
-        }
+        Table { lines: [None; 64] }
+    }
+
+    /// The lowest free place.
+    pub fn vacancy(&self) -> Option<usize>
+        ensures place { result ≡ lowest_free self.now.lines }
+        ensures within { IfSome result (λ p. p < 64) }
+    {
+        self.lines.iter().position(|line| line.is_none())
     }
 
     /// The lowest place in this state.
-    pub fn find(&self, state: State) -> Option<u32>
+    pub fn place_in(&self, state: State) -> Option<usize>
         ensures place { result ≡ lowest state self.now.lines }
         ensures within { IfSome result (λ p. p < 64) }
     {
-        for (place, record) in self.lines.iter().enumerate() {
-            if record.state.is(state) {
-                return Some(place as u32);
-            }
-        }
-        None
+        self.lines
+            .iter()
+            .position(|line| line.is_some_and(|line| line.state == state))
     }
 
-    /// Whether a line has this place and serial, and is in this state.
-    pub fn has(&self, place: u32, serial: u32, state: State) -> bool
-        ensures { result ≡ has self.now.lines place serial state }
+    /// The handle of the line on the lowest place in this state.
+    pub fn find(&self, state: State) -> Option<Line>
+        ensures place { result ≡ option_map (λ place. handle_of place (serial_at self.now.lines place)) (lowest state self.now.lines) }
+        ensures within { IfSome result (λ line. line.place < 64) }
     {
-        let Some(record) = self.lines.get(place as usize) else {
-            return false;
-        };
-        record.serial == serial && record.state.is(state)
+        let place = self.place_in(state)?;
+        let record = self.lines[place]?;
+        Some(Line::from_parts(place as u32, record.serial))
+    }
+
+    /// Whether the line of this handle is in this state.
+    pub fn has(&self, line: &Line, state: State) -> bool
+        ensures { result ≡ has self.now.lines line.now.place line.now.serial state }
+    {
+        let serial = line.serial();
+        self.lines.get(line.place() as usize) == Some(&Some(Record { serial, state }))
     }
 
     /// The number of live lines.
     pub fn live(&self) -> u32
         ensures { result ≡ live self.now.lines }
     {
-        let mut count = 0;
-        for record in self.lines.iter() {
-            if !record.state.is(State::Free) {
-                count += 1;
-            }
-        }
-        count
+        self.lines.iter().filter(|line| line.is_some()).count() as u32
     }
 
-    /// The record at this place.
-    pub fn at(&self, place: u32) -> Record
-        requires { place < 64 }
-        ensures { result ≡ slice_index_or self.now.lines place vacant }
+    /// Puts the line of this handle on its place, in this state.
+    pub fn put(&mut self, line: &Line, state: State)
+        requires { line.now.place < 64 }
+        ensures { self.new.lines ≡ slice_set self.old.lines line.now.place (Some (record { serial = line.now.serial; state = state })) }
     {
-        self.lines[place as usize]
+        let serial = line.serial();
+        self.lines[line.place() as usize] = Some(Record { serial, state });
     }
 
-    /// Changes the record at this place.
-    pub fn put(&mut self, place: u32, line: Record)
-        requires { place < 64 }
-        ensures { self.new.lines ≡ slice_set self.old.lines place line }
+    /// Frees the place of this line; the handle is no more.
+    pub fn free(&mut self, line: Line)
+        requires { line.place < 64 }
+        ensures { self.new.lines ≡ slice_set self.old.lines line.place None }
     {
-        self.lines[place as usize] = line;
+        let (place, _) = line.into_parts();
+        self.lines[place as usize] = None;
     }
 }

@@ -5,10 +5,9 @@ use Rattle.register.specs.Questions.{tallied}
 use Rattle.register.specs.Shown.{Shown}
 use Rattle.register.specs.declared.refusal.Refusal.{Refusal}
 use Rattle.register.specs.declared.refusal.Refusal.TheVariants.{Unreadable}
-use Rattle.script.specs.Answers.{answer_to}
+use Rattle.script.specs.Answers.{Answer, answer_to}
 use Rattle.script.specs.Commands.{Request, opens, retires, tallies, request_of}
-use Rattle.script.specs.declared.answer.Answer.{Answer}
-use Rattle.script.specs.declared.answer.Answer.TheVariants.{Counted, Declined}
+use Rattle.script.specs.declared.answer.Reply.TheVariants.{Counted}
 
 -- what follows a call, by its answer, in the state that it leaves
 abbrev pub next : {A E B : Type 0} → Result A E → Shown → (A → Shown → B) → (E → Shown → B) → B
@@ -33,10 +32,10 @@ retired_on s shelf =
 
 -- what a request does; a line that asks for nothing is unreadable
 abbrev pub carried_out : Shown → Option Request → Answer × Shown
-carried_out s None = (Declined Unreadable, s)
+carried_out s None = (Err Unreadable, s)
 carried_out s (Some (opens shelf)) = (answer_to (opened_on s shelf).0, (opened_on s shelf).1)
 carried_out s (Some (retires shelf)) = (answer_to (retired_on s shelf).0, (retired_on s shelf).1)
-carried_out s (Some tallies) = (Counted (tallied s), s)
+carried_out s (Some tallies) = (Ok (Counted (tallied s)), s)
 
 -- what the fields of a line do
 abbrev pub answered : Shown → List (List ℕ) → Answer × Shown

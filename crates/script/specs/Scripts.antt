@@ -1,7 +1,7 @@
 -- The report of a whole script: a report line for every line that is not empty, then the end line,
 -- and of these the whole lines that fit.
-use Rattle.std.specs.Prelude.{◌≡◌, ℕ, ◌+◌, ◌-◌, ◌≤◌, Bool, true, false, cond, List, [], ◌∷◌, ◌++◌, length, take, pos, Ok, Err, Result, MatchResult, nat_le}
-use Rattle.register.specs.Shown.{Shown}
+use Rattle.std.specs.Prelude.{◌≡◌, ℕ, ◌+◌, ◌-◌, ◌≤◌, Bool, true, false, cond, List, [], ◌∷◌, ◌++◌, length, take, pos, Ok, Err, Result, MatchResult, is_ok, nat_le}
+use Rattle.register.specs.Shown.{Shown, shown}
 use Rattle.register.specs.declared.refusal.Refusal.TheVariants.{ReportFull, ScriptTooLong}
 use Rattle.script.specs.Answers.{answer_pieces, counts_as}
 use Rattle.script.specs.Fields.{fields_of}
@@ -11,7 +11,7 @@ use Rattle.script.specs.Runs.{answered, cleared}
 use Rattle.report.specs.declared.report.Piece.TheVariants.{End, Number}
 use Rattle.report.specs.declared.cursor.Full.{Full}
 use Rattle.report.specs.declared.report.Report.{Report}
-use Rattle.script.specs.declared.runner.Counts.{Counts}
+use Rattle.script.specs.declared.runner.Runner.{Runner}
 use Rattle.script.specs.declared.runner.Stopped.{Stopped}
 
 -- the end line: all lines, those refused, and the nodes in use once every shelf is cleared
@@ -56,10 +56,10 @@ pub record Along (room : ℕ) (whole : List (List ℕ)) (text : List ℕ) (rest 
   pub full : all_fit room whole ≡ all_fit (room - length text) rest
 
 -- All lines were carried out, and the end line is to come; or a report line did not fit.
-abbrev pub RanLines : List (List ℕ) → Result Counts Full → Shown → Report → Type 0
-RanLines whole r s report =
+abbrev pub RanLines : List (List ℕ) → Result (Unit {0}) Full → Runner → Report → Type 0
+RanLines whole r runner report =
     MatchResult r
-    (λ counts. Along (capacity report) whole (text report) (end_line counts.lines counts.refused s ∷ []))
+    (λ _. Along (capacity report) whole (text report) (end_line runner.lines runner.refused (shown runner.register) ∷ []))
     (λ _. (text report ≡ kept (capacity report) whole) × (all_fit (capacity report) whole ≡ false))
 
 -- how a run ends: with the report's length, and with a refusal where a line did not fit
@@ -69,9 +69,9 @@ ended room lines =
     (Ok (length (kept room lines)))
     (Err (record { length = length (kept room lines); why = ReportFull }))
 
--- the report is finished: its text is what fits
-pub record Finished (whole : List (List ℕ)) (r : Result ℕ Stopped) (report : Report) : Type 0 where
-  pub answer : r ≡ ended (capacity report) whole
+-- the report is finished: its text is what fits, and the answer says whether every line does
+pub record Finished (whole : List (List ℕ)) (r : Result (Unit {0}) Full) (report : Report) : Type 0 where
+  pub answer : all_fit (capacity report) whole ≡ is_ok r
   pub written : text report ≡ kept (capacity report) whole
 
 -- A script that is too long is not run, and writes nothing.

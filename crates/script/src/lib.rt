@@ -6,6 +6,7 @@ mod command;
 mod lexer;
 mod lines;
 mod runner;
+mod script_lines;
 
 pub use command::{Command, read_command};
 pub use lexer::{Field, Lexer, Part};

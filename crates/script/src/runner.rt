@@ -1,17 +1,17 @@
 //! Runs a script in a register of its own.
 
-ghost use Rattle.std.specs.Prelude.{◌≡◌, ℕ, ◌<◌, ◌≤◌, min, true, List, length, drop, IfOk, MatchResult};
+ghost use Rattle.std.specs.Prelude.{◌≡◌, ◌+◌, ◌<◌, ◌≤◌, min, true, length, drop, OnOk, MatchResult};
 ghost use Rattle.register.specs.Lines.{at_rest, retired};
-ghost use Rattle.register.specs.Shown.{Shown, shown, newly_made};
+ghost use Rattle.register.specs.Shown.{shown, newly_made};
 ghost use Rattle.script.specs.Fields.{left};
-ghost use Rattle.report.specs.Report.{lender, capacity, used, text, LineAdded, LineRefused};
+ghost use Rattle.report.specs.Report.{lender, capacity, used, LineAdded, LineRefused};
 ghost use Rattle.script.specs.Runs.{opened_on, retired_on, answered, cleared};
 ghost use Rattle.script.specs.Scripts.{refusals, answer_line, report_of, RanLines, Finished, TooLong, Reported};
 
-use crate::answer::{Answer, answer_to, counted};
+use crate::answer::{Reply, counted, write_answer};
 use crate::command::{Command, read_command};
 use crate::lexer::Lexer;
-use crate::lines::line_end;
+use crate::script_lines::ScriptLines;
 use pool::Node;
 use register::{Line, Refusal, Refused, Register};
 use report::{Full, Piece, Report};
@@ -29,22 +29,12 @@ pub struct Stopped {
     pub why: Refusal,
 }
 
-/// The lines of a script so far, and those of them that were refused.
-#[derive(Clone, Copy)]
-struct Counts {
-    lines: u32,
-    refused: u32,
-}
-
 /// Retires a line that is at rest.
 fn end_line(register: &mut Register<'_>, line: Line)
     requires { at_rest (shown register.old) line ≡ true }
     ensures { shown register.new ≡ (retired (shown register.old) line).1 }
 {
-    match register.retire(line) {
-        Ok(()) => {}
-        Err(_refused) => unreachable(),
-    }
+    register.retire(line).unwrap();
 }
 
 /// Opens a line and stows it on the shelf. A line whose stowing is refused is retired.
@@ -52,18 +42,12 @@ fn open_on(register: &mut Register<'_>, shelf: u8) -> Result<(), Refusal>
     ensures answer { result ≡ (opened_on (shown register.old) shelf).0 }
     ensures after { shown register.new ≡ (opened_on (shown register.old) shelf).1 }
 {
-    let line = match register.open_line() {
-        Ok(line) => line,
-        Err(why) => return Err(why),
-    };
-    match register.stow(line, shelf) {
-        Ok(()) => Ok(()),
-        Err(refused) => {
-            let Refused { handle, why } = refused;
-            end_line(register, handle);
-            Err(why)
-        }
+    let line = register.open_line()?;
+    if let Err(Refused { handle, why }) = register.stow(line, shelf) {
+        end_line(register, handle);
+        return Err(why);
     }
+    Ok(())
 }
 
 /// Retires the line of the shelf.
@@ -71,111 +55,95 @@ fn retire_on(register: &mut Register<'_>, shelf: u8) -> Result<(), Refusal>
     ensures answer { result ≡ (retired_on (shown register.old) shelf).0 }
     ensures after { shown register.new ≡ (retired_on (shown register.old) shelf).1 }
 {
-    let line = match register.fetch(shelf) {
-        Ok(line) => line,
-        Err(why) => return Err(why),
-    };
+    let line = register.fetch(shelf)?;
     end_line(register, line);
     Ok(())
 }
 
 /// Carries out the command of a line.
-fn answer(register: &mut Register<'_>, fields: Lexer<'_>) -> Answer
+fn answer(register: &mut Register<'_>, fields: Lexer<'_>) -> Result<Reply, Refusal>
     ensures answer { result ≡ (answered (shown register.old) (left fields.entry)).0 }
     ensures after { shown register.new ≡ (answered (shown register.old) (left fields.entry)).1 }
 {
-    match read_command(fields) {
-        None => Answer::Declined(Refusal::Unreadable),
-        Some(Command::Open { shelf }) => answer_to(open_on(register, shelf)),
-        Some(Command::Retire { shelf }) => answer_to(retire_on(register, shelf)),
-        Some(Command::Tally) => Answer::Counted(register.tally()),
+    match read_command(fields).ok_or(Refusal::Unreadable)? {
+        Command::Open { shelf } => open_on(register, shelf)?,
+        Command::Retire { shelf } => retire_on(register, shelf)?,
+        Command::Tally => return Ok(Reply::Counted(register.tally())),
     }
+    Ok(Reply::Done)
 }
 
-/// Retires the lines of all shelves.
-fn clear(register: &mut Register<'_>)
-    ensures { shown register.new ≡ cleared 26 (shown register.old) }
+/// Retires the lines of all shelves, and gives the nodes that are then in use.
+fn clear(register: &mut Register<'_>) -> u32
+    ensures after { shown register.new ≡ cleared 26 (shown register.old) }
+    ensures in_use { result ≡ (shown register.new).used }
 {
-    for shelf in 0..26 {
-        let _ = retire_on(register, b'A' + shelf);
+    for shelf in b'A'..=b'Z' {
+        let _ = retire_on(register, shelf);
     }
+    register.tally().in_use
 }
 
-/// Carries out one line that is not empty, and reports it. Gives the number of refusals, 0 or 1.
-fn run_line(
-    register: &mut Register<'_>,
-    report: &mut Report<'_>,
-    number: u32,
-    fields: Lexer<'_>,
-) -> Result<u32, Full>
-    ensures lent { lender report.new ≡ lender report.old }
-    ensures kept { capacity report.new ≡ capacity report.old }
-    ensures after { shown register.new ≡ (answered (shown register.old) (left fields.entry)).1 }
-    ensures refused { IfOk result (λ n. n ≡ refusals (shown register.old) (left fields.entry)) }
-    ensures lined { MatchResult result (λ _. LineAdded report.old (answer_line number (shown register.old) (left fields.entry)) report.new) (λ _. LineRefused report.old (answer_line number (shown register.old) (left fields.entry)) report.new) }
-{
-    let answer = answer(register, fields);
-    answer.write(number, report)?;
-    if answer.is_declined() { Ok(1) } else { Ok(0) }
+/// A run of a script: its register, how many lines came so far, and how many of them were refused.
+#[derive(Drop)]
+struct Runner<'n> {
+    register: Register<'n>,
+    lines: u32,
+    refused: u32,
 }
 
-/// Carries out the lines of the script and reports each, up to the first whose report line does not fit.
-fn run_lines(
-    register: &mut Register<'_>,
-    report: &mut Report<'_>,
-    script: &[u8],
-) -> Result<Counts, Full>
-    requires short { length script.now ≤ 32768 }
-    ensures lent { lender report.new ≡ lender report.old }
-    ensures kept { capacity report.new ≡ capacity report.old }
-    ensures ran { used report.old ≡ 0 → RanLines (report_of (shown register.old) script.now) result (shown register.new) report.new }
-{
-    let mut counts = Counts {
-        lines: 0,
-        refused: 0,
-    };
-    let mut start = 0;
-    while start < script.len() {
-        let end = line_end(script, start);
-        counts.lines += 1;
-        if start < end {
-            counts.refused += run_line(
-                register,
-                report,
-                counts.lines,
-                Lexer::new(script, start, end),
-            )?;
+impl Runner<'_> {
+    /// Carries out the line of these fields, and reports it.
+    fn run_line(&mut self, report: &mut Report<'_>, fields: Lexer<'_>) -> Result<(), Full>
+        requires { self.old.refused < 32768 }
+        ensures lent { lender report.new ≡ lender report.old }
+        ensures kept { capacity report.new ≡ capacity report.old }
+        ensures after { shown self.new.register ≡ (answered (shown self.old.register) (left fields.entry)).1 }
+        ensures counted { self.new.lines ≡ self.old.lines }
+        ensures refused { OnOk result (self.new.refused ≡ self.old.refused + refusals (shown self.old.register) (left fields.entry)) }
+        ensures lined { MatchResult result (λ _. LineAdded report.old (answer_line self.old.lines (shown self.old.register) (left fields.entry)) report.new) (λ _. LineRefused report.old (answer_line self.old.lines (shown self.old.register) (left fields.entry)) report.new) }
+    {
+        let answer = answer(&mut self.register, fields);
+        write_answer(report, self.lines, answer)?;
+        self.refused += u32::from(answer.is_err());
+        Ok(())
+    }
+
+    /// Carries out the lines of the script and reports each that is not empty, up to the first whose report line does not fit.
+    fn run_lines(&mut self, report: &mut Report<'_>, script: &[u8]) -> Result<(), Full>
+        requires short { length script.now ≤ 32768 }
+        requires first { (self.old.lines ≡ 0) × (self.old.refused ≡ 0) }
+        ensures lent { lender report.new ≡ lender report.old }
+        ensures kept { capacity report.new ≡ capacity report.old }
+        ensures ran { used report.old ≡ 0 → RanLines (report_of (shown self.old.register) script.now) result self.new report.new }
+    {
+        for line in ScriptLines::new(script) {
+            self.lines += 1;
+            if line.is_empty() {
+                continue;
+            }
+            self.run_line(report, Lexer::new(line, 0, line.len()))?;
         }
-        start = end + 1;
+        Ok(())
     }
-    Ok(counts)
-}
 
-/// Writes the end line where all lines were reported, and gives the report's length.
-fn finish(report: &mut Report<'_>, ran: Result<Counts, Full>, in_use: u32) -> Result<usize, Stopped>
-    ensures lent { lender report.new ≡ lender report.old }
-    ensures kept { capacity report.new ≡ capacity report.old }
-    ensures within { MatchResult result (λ n. n ≤ capacity report.old) (λ stopped. stopped.length ≤ capacity report.old) }
-    ensures ended { (whole : List (List ℕ)) (s : Shown) → in_use ≡ (cleared 26 s).used → RanLines whole ran s report.old → Finished whole result report.new }
-{
-    let Ok(counts) = ran else {
-        return Err(Stopped {
-            length: report.len(),
-            why: Refusal::ReportFull,
-        });
-    };
-    let end = [
-        Piece::End,
-        counted(counts.lines),
-        counted(counts.refused),
-        counted(in_use),
-    ];
-    match report.line(&end) {
-        Ok(()) => Ok(report.len()),
-        Err(_) => Err(Stopped {
-            length: report.len(),
-            why: Refusal::ReportFull,
-        }),
+    /// Carries out the script and writes its report, up to the first line that does not fit.
+    fn run_whole(&mut self, report: &mut Report<'_>, script: &[u8]) -> Result<(), Full>
+        requires short { length script.now ≤ 32768 }
+        requires first { (self.old.lines ≡ 0) × (self.old.refused ≡ 0) }
+        ensures lent { lender report.new ≡ lender report.old }
+        ensures kept { capacity report.new ≡ capacity report.old }
+        ensures finished { used report.old ≡ 0 → Finished (report_of (shown self.old.register) script.now) result report.new }
+    {
+        let ran = self.run_lines(report, script);
+        let in_use = clear(&mut self.register);
+        ran?;
+        report.line(&[
+            Piece::End,
+            counted(self.lines),
+            counted(self.refused),
+            counted(in_use),
+        ])
     }
 }
 
@@ -190,11 +158,21 @@ fn run_script(
     ensures within { MatchResult result (λ n. n ≤ length out.old) (λ stopped. stopped.length ≤ length out.old) }
     ensures ran { Reported (report_of (newly_made (min (length nodes.old) 65535) first_serial) script.now) result out.old out.new }
 {
-    let mut register = Register::new(nodes, first_serial);
     let mut report = Report::new(out);
-    let ran = run_lines(&mut register, &mut report, script);
-    clear(&mut register);
-    finish(&mut report, ran, register.tally().in_use)
+    let mut runner = Runner {
+        register: Register::new(nodes, first_serial),
+        lines: 0,
+        refused: 0,
+    };
+    let whole = runner.run_whole(&mut report, script);
+    let length = report.len();
+    match whole {
+        Ok(()) => Ok(length),
+        Err(_) => Err(Stopped {
+            length,
+            why: Refusal::ReportFull,
+        }),
+    }
 }
 
 /// Runs a script in a register made over `nodes`, and writes its report into `out`. Gives the report's length.
