@@ -9,7 +9,7 @@ use Rattle.script.specs.Lines.{lines_of}
 use Rattle.report.specs.Report.{capacity, held, line_text, text, used, LineAdded, LineRefused}
 use Rattle.script.specs.Runs.{answered, cleared}
 use Rattle.script.specs.Scripts.{Along, Finished, RanLines, all_fit, answer_line, end_line, kept, refusals, report_from}
-use Rattle.report.specs.declared.cursor.Full.{Full}
+use Rattle.report.specs.declared.report.Full.{Full}
 use Rattle.report.specs.declared.report.Piece.{Piece}
 use Rattle.report.specs.declared.report.Piece.TheVariants.{End, Number}
 use Rattle.report.specs.declared.report.Report.{Report}
