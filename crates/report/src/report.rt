@@ -79,7 +79,7 @@ impl<'m> Report<'m> {
         self.put(b"\n")
     }
 
-    /// Writes the text of one piece.
+    /// Writes the text of one piece. A `write!` would not say what a failed write leaves.
     fn put_piece(&mut self, piece: Piece) -> Result<(), Full>
         ensures { Writes self.old (text_of piece) result self.new }
     {
