@@ -1,3 +1,2 @@
 mod LineText
-mod Numbers
 mod Writing

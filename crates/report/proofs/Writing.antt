@@ -1,62 +1,40 @@
 -- One write behind another: what two writes do together.
-use Rattle.std.proofs.Common.{ℕ, ◌+◌, ◌<◌, ◌≤◌, List, [], ◌∷◌, ◌++◌, length, get_or, take, set, IsErrAnd, Ok, Err, Result, sym, refl, ap, ◌∙◌, append_assoc, append-nil, arith, length-append, length-set, length-take}
-use Rattle.std.proofs.lemmas.List.{take_more, take_more_set, take-set, take-take}
-use Rattle.report.specs.declared.cursor.Full.{Full}
+use Rattle.std.proofs.Common.{◌≡◌, ℕ, ◌≤◌, List, ◌++◌, length, take, IsErrAnd, Ok, Err, Result, sym, ap, ◌∙◌, append_assoc, arith, length-append}
+use Rattle.std.proofs.lemmas.List.{length-take, take-take, take_at}
+use Rattle.report.specs.Report.{KeepsRoom, capacity, held, text, used}
 use Rattle.report.specs.Writing.{Added, Lacking, Writes}
+use Rattle.report.specs.declared.report.Full.{Full}
+use Rattle.report.specs.declared.report.Report.{Report}
 
-pub added-byte : (xs : List ℕ) (n byte : ℕ) → n < length xs → Added xs n (byte ∷ []) (set xs n byte) (n + 1)
-added-byte xs n byte room =
-    record { long = refl; text = take_more_set xs n byte room; before = take-set xs n byte; kept = length-set xs n byte }
+text-length : (r : Report) → length (text r) ≡ used r
+text-length r = length-take (used r) (held r) ∙ (let h : used r ≤ capacity r = r.within in omega arith)
 
-pub added_none : (xs : List ℕ) (n : ℕ) → Added xs n [] xs n
-added_none xs n =
-    record { long = omega arith; text = sym (append-nil (take n xs)); before = refl; kept = refl }
+same-then : {p q r : Report} → KeepsRoom p q → KeepsRoom q r → KeepsRoom p r
+same-then a b = record { lent = b.lent ∙ a.lent; kept = b.kept ∙ a.kept }
 
-pub added_then : {xs ys zs t u : List ℕ} {n m k : ℕ} → Added xs n t ys m → Added ys m u zs k → Added xs n (t ++ u) zs k
-added_then {xs} {ys} {zs} {t} {u} {n} {m} {k} a b =
-    let within : n ≤ m = omega arith in
+pub added_then : {p q r : Report} {t u : List ℕ} → Added p t q → Added q u r → Added p (t ++ u) r
+added_then {p} {q} {r} {t} {u} a b =
     record {
-      long = omega (arith, length-append t u);
-      text = b.text ∙ ap (λ s. s ++ u) a.text ∙ append_assoc (take n xs) t u;
-      before = sym (take-take n m zs within) ∙ ap (take n) b.before ∙ take-take n m ys within ∙ a.before;
-      kept = b.kept ∙ a.kept;
+      same = same-then a.same b.same;
+      grown = omega (arith, length-append t u);
+      appended = b.appended ∙ ap (λ s. s ++ u) a.appended ∙ append_assoc (text p) t u;
     }
 
-pub lacking-then : {xs ys zs t u : List ℕ} {n m : ℕ} → Added xs n t ys m → Lacking ys m u zs → Lacking xs n (t ++ u) zs
-lacking-then {xs} {ys} {zs} {t} {u} {n} {m} a b =
-    let within : n ≤ m = omega arith in
+pub lacking-then : {p q r : Report} {t u : List ℕ} → Added p t q → Lacking q u r → Lacking p (t ++ u) r
+lacking-then {p} {q} {r} {t} {u} a b =
+    let within : used p ≤ used q = omega arith in
+    let long = text-length p in
     record {
+      same = same-then a.same b.same;
       full = omega (arith, length-append t u);
-      before = sym (take-take n m zs within) ∙ ap (take n) b.before ∙ take-take n m ys within ∙ a.before;
-      kept = b.kept ∙ a.kept;
+      stays = sym (take-take (used p) (used q) (held r) within) ∙ ap (take (used p)) (b.stays ∙ a.appended) ∙ take_at (text p) t (used p) long;
     }
 
--- Where a text has no room, no longer one has.
-pub lacking-longer : {xs ys t : List ℕ} {n : ℕ} (u : List ℕ) → length t ≤ length u → Lacking xs n t ys → Lacking xs n u ys
-lacking-longer u le a = record { full = omega arith; before = a.before; kept = a.kept }
+pub writes_then : {p q : Report} {t : List ℕ} (u : List ℕ) (r : Report) (result : Result (Unit {0}) Full) → Added p t q → Writes q u result r → Writes p (t ++ u) result r
+writes_then u r (Ok _) a b = added_then a b
+writes_then u r (Err _) a b = lacking-then a b
 
-pub lacking-more : {xs ys t : List ℕ} {n : ℕ} (u : List ℕ) → Lacking xs n t ys → Lacking xs n (t ++ u) ys
-lacking-more {t = t} u a = lacking-longer (t ++ u) (omega (arith, length-append t u)) a
-
--- The byte at i of the text t finds no room.
-pub lacking-at : {xs ys zs : List ℕ} {n m : ℕ} (t : List ℕ) (i : ℕ) → i < length t → Added xs n (take i t) ys m → Lacking ys m (get_or t i 0 ∷ []) zs → Lacking xs n t zs
-lacking-at t i lt a b =
-    lacking-longer t (simp (length-append, length-take) (omega arith)) (lacking-then a b)
-
--- The byte at i of the text t is added.
-pub added-at : {xs ys zs : List ℕ} {n m k : ℕ} (t : List ℕ) (i : ℕ) → i < length t → Added xs n (take i t) ys m → Added ys m (get_or t i 0 ∷ []) zs k → Added xs n (take (i + 1) t) zs k
-added-at t i lt a b = rw (take_more t i 0 lt) (added_then a b)
-
--- Where the text was within the bytes, it still is.
-pub added-within : {xs ys t : List ℕ} {n m : ℕ} → n ≤ length xs → Added xs n t ys m → m ≤ length ys
-added-within {xs} {ys} {t} {n} {m} within a =
-    omega (arith, ap length a.text, length-take m ys, length-append (take n xs) t, length-take n xs)
-
-pub writes_then : {xs ys t : List ℕ} {n m : ℕ} (u zs : List ℕ) (k : ℕ) (r : Result (Unit {0}) Full) → Added xs n t ys m → Writes ys m u r zs k → Writes xs n (t ++ u) r zs k
-writes_then u zs k (Ok _) a b = added_then a b
-writes_then u zs k (Err _) a b = lacking-then a b
-
--- The way out of a `?`.
-pub writes-refused : {xs t ys : List ℕ} {n : ℕ} (m : ℕ) (Q : Full → Type 0) (r : Result (Unit {0}) Full) → IsErrAnd r Q → Lacking xs n t ys → Writes xs n t r ys m
-writes-refused m Q (Ok _) e a = absurd e
-writes-refused m Q (Err _) e a = a
+-- The way out of a `?`: where a text has no room, no longer one has.
+pub writes-refused : {p q : Report} {t : List ℕ} (u : List ℕ) (Q : Full → Type 0) (result : Result (Unit {0}) Full) → IsErrAnd result Q → length t ≤ length u → Lacking p t q → Writes p u result q
+writes-refused u Q (Ok _) e le a = absurd e
+writes-refused u Q (Err _) e le a = record { same = a.same; full = omega arith; stays = a.stays }

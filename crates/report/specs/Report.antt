@@ -3,7 +3,7 @@ use Rattle.std.specs.Prelude.{◌≡◌, ℕ, ◌+◌, ◌<◌, ◌≤◌, List,
 use Rattle.std.specs.Borrow.{GName}
 use Rattle.std.specs.List.{flat_map}
 use Rattle.std.specs.Fmt.{signed_decimal}
-use Rattle.report.specs.declared.cursor.Full.{Full}
+use Rattle.report.specs.declared.report.Full.{Full}
 use Rattle.report.specs.declared.report.Piece.{Piece}
 use Rattle.report.specs.declared.report.Piece.TheVariants.{Accepted, Nothing, Refused, End, Number}
 use Rattle.report.specs.declared.report.Report.{Report}
@@ -35,11 +35,16 @@ capacity r = length (held r)
 
 -- How many bytes are written.
 abbrev pub used : Report → ℕ
-used r = r.cursor.length
+used r = r.written
 
 -- What is written.
 abbrev pub text : Report → List ℕ
 text r = take (used r) (held r)
+
+-- The same bytes are lent, as many as before.
+pub record KeepsRoom (before after : Report) : Type 0 where
+  pub lent : lender after ≡ lender before
+  pub kept : capacity after ≡ capacity before
 
 -- The line was added to the text.
 pub record LineAdded (before : Report) (line : List ℕ) (after : Report) : Type 0 where

@@ -1,72 +1,76 @@
--- Where a script is cut into lines, and a line into fields.
-use Rattle.std.proofs.Common.{◌≡◌, ℕ, zero, suc, ◌+◌, ◌-◌, ◌<◌, ◌≤◌, eqb, List, [], ◌∷◌, length, get_or, take, drop, sym, refl, ap, ◌∙◌, arith, length-drop}
-use Rattle.std.proofs.lemmas.List.{get_or-drop, drop-drop, drop_all, take_all, length-take-le}
-use Rattle.std.proofs.lemmas.Bool.{cond-true, cond-false, eq-eqb, ne_eqb}
+-- Where a script is cut into lines, and a line into fields: before the first byte that stops a part.
+use Rattle.std.proofs.Common.{◌≡◌, ℕ, suc, ◌+◌, ◌-◌, ◌<◌, ◌≤◌, ◌==◌, eqb, ltb, not, true, false, List, [], ◌∷◌, length, take, drop, sym, refl, ap, ◌∙◌, inl, inr, arith, length-drop}
+use Rattle.std.proofs.lemmas.List.{drop-drop}
+use Rattle.std.proofs.lemmas.Slice.{between_to_end}
+use Rattle.std.proofs.lemmas.Bool.{cond-true, cond-false, lt-ltb, le-ltb, cases_lt, cases_Bool}
+use Rattle.std.specs.List.{prefix_len}
 use Rattle.script.specs.Lines.{on_first, lines_of}
-use Rattle.script.specs.Fields.{fields_of}
+use Rattle.script.specs.Fields.{fields_of, fields_from}
 
--- a script that is not empty: its first n bytes are the first line, where none of them is a line feed, and one or the end follows
-pub lines_cut : (n : ℕ) (bytes : List ℕ) → 0 < length bytes → n ≤ length bytes → ((k : ℕ) → k < n → get_or bytes k 0 ≡ 10 → ⊥) → (n < length bytes → get_or bytes n 0 ≡ 10) → lines_of bytes ≡ take n bytes ∷ lines_of (drop (suc n) bytes)
-lines_cut n [] some within none found = absurd (omega arith)
-lines_cut zero (b ∷ bs) some within none found = cond-true (eqb b 10) ([] ∷ lines_of bs) (on_first b (lines_of bs)) (eq-eqb b 10 (found some))
-lines_cut (suc zero) (b ∷ []) some within none found = cond-false (eqb b 10) ([] ∷ lines_of []) (on_first b (lines_of [])) (ne_eqb b 10 (none 0 (omega arith)))
-lines_cut (suc (suc n)) (b ∷ []) some within none found = absurd (omega arith)
-lines_cut (suc n) (b ∷ c ∷ bs) some within none found =
-    cond-false (eqb b 10) ([] ∷ lines_of (c ∷ bs)) (on_first b (lines_of (c ∷ bs))) (ne_eqb b 10 (none 0 (omega arith)))
-    ∙ ap (on_first b) (lines_cut n (c ∷ bs) (omega arith) (omega arith) (λ k h. none (suc k) (omega arith)) (λ h. found (omega arith)))
+-- how many bytes stand before the first that is this one
+abbrev pub before : ℕ → List ℕ → ℕ
+before stop bytes = prefix_len (λ byte. not (byte == stop)) bytes
 
--- the first n bytes of a line are its first field, where none of them is a tab and a tab follows
-pub fields-cut : (n : ℕ) (bytes : List ℕ) → n < length bytes → ((k : ℕ) → k < n → get_or bytes k 0 ≡ 9 → ⊥) → get_or bytes n 0 ≡ 9 → fields_of bytes ≡ take n bytes ∷ fields_of (drop (suc n) bytes)
-fields-cut n [] within none found = absurd (omega arith)
-fields-cut zero (b ∷ bs) within none found = cond-true (eqb b 9) ([] ∷ fields_of bs) (on_first b (fields_of bs)) (eq-eqb b 9 found)
-fields-cut (suc n) (b ∷ bs) within none found =
-    cond-false (eqb b 9) ([] ∷ fields_of bs) (on_first b (fields_of bs)) (ne_eqb b 9 (none 0 (omega arith)))
-    ∙ ap (on_first b) (fields-cut n bs (omega arith) (λ k h. none (suc k) (omega arith)) found)
+before-stop : (stop b : ℕ) (bs : List ℕ) → eqb b stop ≡ true → before stop (b ∷ bs) ≡ 0
+before-stop stop b bs is = cond-false (not (eqb b stop)) (1 + before stop bs) 0 (ap not is)
 
--- a line without a tab is one field
-pub fields-last : (bytes : List ℕ) → ((k : ℕ) → k < length bytes → get_or bytes k 0 ≡ 9 → ⊥) → fields_of bytes ≡ bytes ∷ []
-fields-last [] none = refl
-fields-last (b ∷ bs) none =
-    cond-false (eqb b 9) ([] ∷ fields_of bs) (on_first b (fields_of bs)) (ne_eqb b 9 (none 0 (omega arith)))
-    ∙ ap (on_first b) (fields-last bs (λ k h. none (suc k) (omega arith)))
+before-other : (stop b : ℕ) (bs : List ℕ) → eqb b stop ≡ false → before stop (b ∷ bs) ≡ suc (before stop bs)
+before-other stop b bs other = cond-true (not (eqb b stop)) (1 + before stop bs) 0 (ap not other) ∙ omega arith
 
-module _ (bytes : List ℕ) (start end stop : ℕ) (after : start ≤ end) (within : end ≤ length bytes) (before : (k : ℕ) → start ≤ k → k < end → get_or bytes k 0 ≡ stop → ⊥) (found : end < length bytes → get_or bytes end 0 ≡ stop) where
-  -- what is known of the part from start to end, as it is known of the bytes from start on
-  none_before : (k : ℕ) → k < end - start → get_or (drop start bytes) k 0 ≡ stop → ⊥
-  none_before k h e = before (start + k) (omega arith) (omega arith) (sym (get_or-drop start bytes k 0) ∙ e)
+cut-line : (b : ℕ) (bs : List ℕ) → on_first b (lines_of bs) ≡ (b ∷ take (before 10 bs) bs) ∷ lines_of (drop (suc (before 10 bs)) bs) → lines_of (b ∷ bs) ≡ take (before 10 (b ∷ bs)) (b ∷ bs) ∷ lines_of (drop (suc (before 10 (b ∷ bs))) (b ∷ bs))
+cut-line b bs more =
+    let cut = λ (n : ℕ). take n (b ∷ bs) ∷ lines_of (drop (suc n) (b ∷ bs)) in
+    elim (cases_Bool (eqb b 10)) [
+      | inl is ↦ cond-true (eqb b 10) ([] ∷ lines_of bs) (on_first b (lines_of bs)) is ∙ ap cut (sym (before-stop 10 b bs is))
+      | inr other ↦ cond-false (eqb b 10) ([] ∷ lines_of bs) (on_first b (lines_of bs)) other ∙ more ∙ ap cut (sym (before-other 10 b bs other))
+    ]
 
-  stop-found : end - start < length (drop start bytes) → get_or (drop start bytes) (end - start) 0 ≡ stop
-  stop-found h =
-      let there : start + (end - start) ≡ end = omega arith in
-      get_or-drop start bytes (end - start) 0 ∙ ap (λ i. get_or bytes i 0) there ∙ found (omega (arith, length-drop start bytes))
+-- what stands before the first line feed of a script that is not empty is its first line
+lines-cut : (bytes : List ℕ) → 0 < length bytes → lines_of bytes ≡ take (before 10 bytes) bytes ∷ lines_of (drop (suc (before 10 bytes)) bytes)
+lines-cut [] some = absurd (omega arith)
+lines-cut (b ∷ []) some = cut-line b [] refl
+lines-cut (b ∷ c ∷ cs) some = cut-line b (c ∷ cs) (ap (on_first b) (lines-cut (c ∷ cs) (omega arith)))
 
-  rest-drops : drop (suc (end - start)) (drop start bytes) ≡ drop (end + 1) bytes
-  rest-drops =
-      let there : start + suc (end - start) ≡ end + 1 = omega arith in
-      drop-drop (suc (end - start)) start bytes ∙ ap (λ i. drop i bytes) there
+-- the line that begins at start, and the lines behind it
+pub line-at : (script : List ℕ) (start n : ℕ) → start < length script → n ≡ before 10 (take (length script - start) (drop start script)) → lines_of (drop start script) ≡ take (start + n - start) (drop start script) ∷ lines_of (drop (start + n + 1) script)
+line-at script start n some is =
+    let rest : List ℕ = drop start script in
+    let n-is : before 10 rest ≡ start + n - start = ap (before 10) (sym (between_to_end script start (length script) (omega arith))) ∙ sym is ∙ omega arith in
+    let behind : drop (suc (before 10 rest)) rest ≡ drop (start + n + 1) script =
+    drop-drop (suc (before 10 rest)) start script ∙ ap (λ i. drop i script) (omega arith) in
+    lines-cut rest (omega (arith, length-drop start script)) ∙ (λ i. take (n-is i) rest ∷ lines_of (behind i))
 
--- the line at start, and the lines after it
-pub line_at : (script : List ℕ) (start end : ℕ) → start < length script → start ≤ end → end ≤ length script → ((k : ℕ) → start ≤ k → k < end → get_or script k 0 ≡ 10 → ⊥) → (end < length script → get_or script end 0 ≡ 10) → lines_of (drop start script) ≡ take (end - start) (drop start script) ∷ lines_of (drop (end + 1) script)
-line_at script start end some after within before found =
-    lines_cut (end - start) (drop start script) (omega (arith, length-drop start script)) (omega (arith, length-drop start script)) (none_before script start end 10 after within before found) (stop-found script start end 10 after within before found)
-    ∙ ap (λ rest. take (end - start) (drop start script) ∷ lines_of rest) (rest-drops script start end 10 after within before found)
+-- the fields from a place that is not past the end
+pub fields-inside : (line : List ℕ) (place : ℕ) → place ≤ length line → fields_from line place ≡ fields_of (drop place line)
+fields-inside line place inside = cond-false (ltb (length line) place) [] (fields_of (drop place line)) (le-ltb (length line) place inside)
 
--- no line is left at the script's end
-pub lines_end : (script : List ℕ) (start : ℕ) → length script ≤ start → lines_of (drop start script) ≡ []
-lines_end script start h = ap lines_of (drop_all start script h)
+-- the fields from a place on are those of the bytes from a place before it on
+pub fields-drop : (line : List ℕ) (start place next : ℕ) → start ≤ length line → next ≡ start + place → fields_from (drop start line) place ≡ fields_from line next
+fields-drop line start place next within is =
+    let rest : List ℕ = drop start line in
+    elim (cases_lt (length line) next) [
+      | inl past ↦
+          cond-true (ltb (length rest) place) [] (fields_of (drop place rest)) (lt-ltb (length rest) place (omega (arith, length-drop start line)))
+          ∙ sym (cond-true (ltb (length line) next) [] (fields_of (drop next line)) (lt-ltb (length line) next past))
+      | inr inside ↦
+          fields-inside rest place (omega (arith, length-drop start line))
+          ∙ ap fields_of (drop-drop place start line ∙ ap (λ i. drop i line) (sym is))
+          ∙ sym (fields-inside line next inside)
+    ]
 
--- the field at start, and the fields after it, where a tab ends it
-pub field_at : (line : List ℕ) (start end : ℕ) → start ≤ end → end < length line → ((k : ℕ) → start ≤ k → k < end → get_or line k 0 ≡ 9 → ⊥) → get_or line end 0 ≡ 9 → fields_of (drop start line) ≡ take (end - start) (drop start line) ∷ fields_of (drop (end + 1) line)
-field_at line start end after within before found =
-    fields-cut (end - start) (drop start line) (omega (arith, length-drop start line)) (none_before line start end 9 after (omega arith) before (λ h. found)) (stop-found line start end 9 after (omega arith) before (λ h. found) (omega (arith, length-drop start line)))
-    ∙ ap (λ rest. take (end - start) (drop start line) ∷ fields_of rest) (rest-drops line start end 9 after (omega arith) before (λ h. found))
-
--- the last field
-pub field-last : (line : List ℕ) (start end : ℕ) → start ≤ end → end ≡ length line → ((k : ℕ) → start ≤ k → k < end → get_or line k 0 ≡ 9 → ⊥) → fields_of (drop start line) ≡ take (end - start) (drop start line) ∷ []
-field-last line start end after last before =
-    fields-last (drop start line) (λ k h. none_before line start end 9 after (omega arith) before (λ h. absurd (omega arith)) k (omega (arith, length-drop start line)))
-    ∙ ap (λ field. field ∷ []) (sym (take_all (end - start) (drop start line) (omega (arith, length-drop start line))))
-
--- how long the line from start up to end is
-pub line-length : (script : List ℕ) (start end : ℕ) → start ≤ end → end ≤ length script → length (take (end - start) (drop start script)) ≡ end - start
-line-length script start end after within = length-take-le (end - start) (drop start script) (omega (arith, length-drop start script))
+-- what stands before the first tab of a line is its first field
+pub fields-cut : (bytes : List ℕ) → fields_of bytes ≡ take (before 9 bytes) bytes ∷ fields_from bytes (suc (before 9 bytes))
+fields-cut [] = refl
+fields-cut (b ∷ bs) =
+    let cut = λ (n : ℕ). take n (b ∷ bs) ∷ fields_from (b ∷ bs) (suc n) in
+    elim (cases_Bool (eqb b 9)) [
+      | inl is ↦
+          cond-true (eqb b 9) ([] ∷ fields_of bs) (on_first b (fields_of bs)) is
+          ∙ ap (λ fields. [] ∷ fields) (sym (fields-inside (b ∷ bs) 1 (omega arith)))
+          ∙ ap cut (sym (before-stop 9 b bs is))
+      | inr other ↦
+          cond-false (eqb b 9) ([] ∷ fields_of bs) (on_first b (fields_of bs)) other
+          ∙ ap (on_first b) (fields-cut bs)
+          ∙ ap (λ fields. (b ∷ take (before 9 bs) bs) ∷ fields) (fields-drop (b ∷ bs) 1 (suc (before 9 bs)) (suc (suc (before 9 bs))) (omega arith) (omega arith))
+          ∙ ap cut (sym (before-other 9 b bs other))
+    ]

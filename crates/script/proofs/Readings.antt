@@ -1,18 +1,13 @@
 -- Readings: a number, or a minus sign and a magnitude, and the text that a reading is written by.
-use Rattle.std.proofs.Common.{◌≡◌, ℕ, zero, suc, ◌-◌, ◌^◌, ◌<◌, eqb, List, [], ◌∷◌, length, get_or, take, drop, ℤ, pos, negsuc, neg_ℤ, nat_abs, Some, None, decimal, Option, sym, refl, ap, ◌∙◌, subst, inl, inr, arith}
-use Rattle.std.proofs.lemmas.List.{take_rest}
+use Rattle.std.proofs.Common.{◌≡◌, Bool, false, true, ℕ, zero, suc, ◌^◌, ◌<◌, eqb, List, [], ◌∷◌, ℤ, pos, negsuc, neg_ℤ, nat_abs, Some, None, decimal, Option, sym, refl, ap, ◌∙◌, subst, inl, inr, arith}
 use Rattle.std.proofs.lemmas.Bool.{cond-true, cond-false, eqb-true, eq-eqb, ne_eqb, cases_Bool, cases_eq}
 use Rattle.std.specs.Option.{option_map, option_or}
 use Rattle.std.specs.Fmt.{signed_decimal}
-use Rattle.script.specs.declared.lexer.Field.{Field}
-use Rattle.script.specs.declared.lexer.Field.TheVariants.{Number, Negative, Word}
-use Rattle.script.specs.declared.lexer.Part.{Part}
-use Rattle.script.specs.Fields.{Lexed, text_of}
 use Rattle.script.specs.Numerals.{number_of, after_minus, nonzero, magnitude_of, reading_of, ReadingWritten}
-use Rattle.script.proofs.Digits.{number-written, number-none-digits, stopped}
+use Rattle.script.proofs.Digits.{number_written, number-none-digits}
 
 pub number_small : (text : List ℕ) (n : ℕ) → number_of text ≡ Some n → n < 10 ^ 18
-number_small text n e = ((number-written text n).0 e).1
+number_small text n e = ((number_written text).reads n e).1
 
 pub reading-number : (text : List ℕ) (n : ℕ) → number_of text ≡ Some n → reading_of text ≡ Some (pos n)
 reading-number text n e = ap (λ o. option_or (option_map pos o) (option_map (λ m. neg_ℤ (pos m)) (magnitude_of text))) e
@@ -22,16 +17,6 @@ reading-negative text m none e = ap (λ o. option_or (option_map pos o) (option_
 
 pub reading-none : (text : List ℕ) → number_of text ≡ None → magnitude_of text ≡ None → reading_of text ≡ None
 reading-none text none no_sign = ap (λ o. option_or (option_map pos o) (option_map (λ m. neg_ℤ (pos m)) (magnitude_of text))) none ∙ ap (option_map (λ m. neg_ℤ (pos m))) no_sign
-
--- the number after a minus sign, where the first byte is one, and where it is not
-pub after_minus_lem : (text : List ℕ) → 0 < length text → get_or text 0 0 ≡ 45 → number_of (take (length text - 1) (drop 1 text)) ≡ after_minus text
-after_minus_lem [] some sign = absurd (omega arith)
-after_minus_lem (first ∷ rest) some sign =
-    ap number_of (take_rest (first ∷ rest) 1) ∙ sym (cond-true (eqb first 45) (number_of rest) None (eq-eqb first 45 sign))
-
-pub after_none : (text : List ℕ) → (0 < length text → get_or text 0 0 ≡ 45 → ⊥) → None ≡ after_minus text
-after_none [] refused = refl
-after_none (first ∷ rest) refused = sym (cond-false (eqb first 45) (number_of rest) None (ne_eqb first 45 (refused (omega arith))))
 
 -- a number that is there and not 0
 nonzero-some : (n : ℕ) → 0 < n → nonzero (Some n) ≡ Some n
@@ -61,49 +46,37 @@ magnitude-parts (first ∷ rest) m e =
           let z : ◌≡◌ {A = ℕ} 0 1 = cc in absurd (omega arith)
     ]
 
-pub magnitude-small : (text : List ℕ) (m : ℕ) → magnitude_of text ≡ Some m → m < 10 ^ 18
-magnitude-small text m e = let parts = magnitude-parts text m e in number_small parts.0 m parts.2
+pub magnitude_small : (text : List ℕ) (m : ℕ) → magnitude_of text ≡ Some m → m < 10 ^ 18
+magnitude_small text m e = let parts = magnitude-parts text m e in number_small parts.0 m parts.2
 
 -- no number begins with a minus sign
 pub signed-no-number : (rest : List ℕ) → number_of (45 ∷ rest) ≡ None
-signed-no-number rest = sym (number-none-digits (45 ∷ rest) (stopped (45 ∷ rest) 0 (omega arith) refl refl))
+signed-no-number rest = sym (number-none-digits (45 ∷ rest) (λ all. let z : ◌≡◌ {A = Bool} false true = all in cc))
 
 read-written : (text : List ℕ) (z : ℤ) (o p : Option ℕ) → number_of text ≡ o → magnitude_of text ≡ p → reading_of text ≡ Some z → (text ≡ signed_decimal z) × (nat_abs z < 10 ^ 18)
 read-written text z (Some n) p is signs e =
     let same : Some (pos n) ≡ Some z = sym (reading-number text n is) ∙ e in
     let z-is : pos n ≡ z = cc in
-    subst (λ z. (text ≡ signed_decimal z) × (nat_abs z < 10 ^ 18)) z-is ((number-written text n).0 is)
+    subst (λ z. (text ≡ signed_decimal z) × (nat_abs z < 10 ^ 18)) z-is ((number_written text).reads n is)
 read-written text z None (Some zero) is signs e = absurd (omega (arith, (magnitude-parts text 0 signs).3))
 read-written text z None (Some (suc m)) is signs e =
     let parts = magnitude-parts text (suc m) signs in
     let same : Some (negsuc m) ≡ Some z = sym (reading-negative text (suc m) is signs) ∙ e in
     let z-is : negsuc m ≡ z = cc in
-    let written = (number-written parts.0 (suc m)).0 parts.2 in
+    let written = (number_written parts.0).reads (suc m) parts.2 in
     subst (λ z. (text ≡ signed_decimal z) × (nat_abs z < 10 ^ 18)) z-is (parts.1 ∙ ap (λ rest. 45 ∷ rest) written.0, written.1)
 read-written text z None None is signs e =
     let none : None ≡ Some z = sym (reading-none text is signs) ∙ e in
     let no : ◌≡◌ {A = ℕ} 0 1 = cc in absurd (omega arith)
 
 written_read : (text : List ℕ) (z : ℤ) → text ≡ signed_decimal z → nat_abs z < 10 ^ 18 → reading_of text ≡ Some z
-written_read text (pos n) is small = reading-number text n ((number-written text n).1 is small)
+written_read text (pos n) is small = reading-number text n ((number_written text).writes n is small)
 written_read text (negsuc n) is small =
-    ap reading_of is ∙ reading-negative (45 ∷ decimal (suc n)) (suc n) (signed-no-number (decimal (suc n))) (ap nonzero ((number-written (decimal (suc n)) (suc n)).1 refl small) ∙ nonzero-some (suc n) (omega arith))
+    ap reading_of is ∙ reading-negative (45 ∷ decimal (suc n)) (suc n) (signed-no-number (decimal (suc n))) (ap nonzero ((number_written (decimal (suc n))).writes (suc n) refl small) ∙ nonzero-some (suc n) (omega arith))
 
-pub reading-written : (text : List ℕ) → ReadingWritten text
-reading-written text z = (read-written text z (number_of text) (magnitude_of text) refl refl, written_read text z)
+pub reading_written : (text : List ℕ) → ReadingWritten text
+reading_written text =
+    record { reads = λ z. read-written text z (number_of text) (magnitude_of text) refl refl; writes = written_read text }
 
--- what a lexed field says, by its variant
-pub field-number : (field : Field) (part : Part) (n : ℕ) → field ≡ Number part n → Lexed field → number_of (text_of field) ≡ Some n
-field-number field part n is lexed = subst (λ t. number_of t ≡ Some n) (sym (ap text_of is)) (subst Lexed is lexed)
-
-pub field-negative : (field : Field) (part : Part) (m : ℕ) → field ≡ Negative part m → Lexed field → (number_of (text_of field) ≡ None) × (magnitude_of (text_of field) ≡ Some m)
-field-negative field part m is lexed = subst (λ t. (number_of t ≡ None) × (magnitude_of t ≡ Some m)) (sym (ap text_of is)) (subst Lexed is lexed)
-
-pub word-reading : (part : Part) → Lexed (Word part) → None ≡ reading_of part.text.now
-word-reading part lexed = sym (reading-none part.text.now lexed.0 lexed.1)
-
-pub number-reading : (field : Field) (part : Part) (n : ℕ) → field ≡ Number part n → Lexed field → Some (pos n) ≡ reading_of (text_of field)
-number-reading field part n is lexed = sym (reading-number (text_of field) n (field-number field part n is lexed))
-
-pub negative-reading : (field : Field) (part : Part) (m : ℕ) → field ≡ Negative part m → Lexed field → Some (neg_ℤ (pos m)) ≡ reading_of (text_of field)
-negative-reading field part m is lexed = let says = field-negative field part m is lexed in sym (reading-negative (text_of field) m says.0 says.1)
+-- what is known of the number and of the magnitude that a text says, and of its reading
+pub ruleset readings = (number_small, magnitude_small, reading_written)

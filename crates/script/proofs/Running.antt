@@ -9,13 +9,13 @@ use Rattle.script.specs.Lines.{lines_of, on_first}
 use Rattle.report.specs.Report.{capacity, held, line_text, text, used, LineAdded, LineRefused}
 use Rattle.script.specs.Runs.{answered, cleared}
 use Rattle.script.specs.Scripts.{Along, Finished, all_fit, answer_line, end_line, ended, kept, refusals, report_from}
-use Rattle.report.specs.declared.cursor.Full.{Full}
+use Rattle.report.specs.declared.report.Full.{Full}
 use Rattle.report.specs.declared.report.Piece.{Piece}
 use Rattle.report.specs.declared.report.Piece.TheVariants.{End, Number}
 use Rattle.report.specs.declared.report.Report.{Report}
 use Rattle.script.proofs.Fitting.{along-more, along-full, along-end}
 
--- a report's text is as long as its cursor says
+-- a report's text is as long as it says
 text-length : (r : Report) → length (text r) ≡ used r
 text-length r = length-take (used r) (held r) ∙ (let h : used r ≤ capacity r = r.within in omega arith)
 

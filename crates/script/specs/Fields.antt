@@ -1,6 +1,6 @@
 -- The fields of a line, parted by tabs: a line of k tabs has k + 1 fields, and a field may be empty.
-use Rattle.std.specs.Prelude.{◌≡◌, ℕ, ◌<◌, cond, List, [], ◌∷◌, ◌++◌, length, take, drop, Some, None, ◌==◌, ◌≢◌, nat_lt}
-use Rattle.std.specs.List.{AllByRecursion}
+use Rattle.std.specs.Prelude.{◌≡◌, ℕ, ◌<◌, ◌≤◌, not, cond, List, [], ◌∷◌, ◌++◌, length, take, drop, Some, None, Option, MatchOption, ◌==◌, ◌≢◌, nat_lt}
+use Rattle.std.specs.List.{AllByRecursion, prefix_len}
 use Rattle.script.specs.declared.lexer.Field.{Field}
 use Rattle.script.specs.declared.lexer.Field.TheVariants.{Number, Negative, Word}
 use Rattle.script.specs.declared.lexer.Lexer.{Lexer}
@@ -39,6 +39,11 @@ Lexed (Number part value) = number_of part.text.now ≡ Some value
 Lexed (Negative part magnitude) = (number_of part.text.now ≡ None) × (magnitude_of part.text.now ≡ Some magnitude)
 Lexed (Word part) = (number_of part.text.now ≡ None) × (magnitude_of part.text.now ≡ None)
 
+-- a field is made of this part, and its variant and value are those of its text
+pub record IsFieldOf (part : Part) (field : Field) : Type 0 where
+  pub made_of : part_of field ≡ part
+  pub lexed : Lexed field
+
 -- the fields from a place on; past the end there is none
 abbrev pub fields_from : List ℕ → ℕ → List (List ℕ)
 fields_from line place = cond (nat_lt (length line) place) [] (fields_of (drop place line))
@@ -53,3 +58,15 @@ pub record Gives (before : Lexer) (field : Field) (after : Lexer) : Type 0 where
   pub place : (part_of field).place ≡ before.next
   pub part : text_of field ≡ take (length (text_of field)) (drop (part_of field).place before.script.now)
   pub lexed : Lexed field
+
+-- The lexer gives its next field, or none where none is left, and keeps the script.
+abbrev pub GivesNext : Lexer → Option Field → Lexer → Type 0
+GivesNext before result after =
+    MatchOption result ((left before ≡ []) × (after ≡ before)) (λ field. Gives before field after) × (after.script ≡ before.script)
+
+-- the part of the line at the lexer's place, up to the first tab or to the line's end
+pub record IsNextPart (lexer : Lexer) (part : Part) : Type 0 where
+  pub place : part.place ≡ lexer.next
+  pub inside : lexer.next ≤ length lexer.script.now
+  pub text : part.text.now ≡ take (length part.text.now) (drop lexer.next lexer.script.now)
+  pub size : length part.text.now ≡ prefix_len (λ byte. not (byte == 9)) (drop lexer.next lexer.script.now)

@@ -48,15 +48,11 @@ byte_of (byte ∷ []) = Some byte
 byte_of (byte ∷ next ∷ bytes) = None
 
 -- A text says the number just where the number is below 10^18 and its decimal text is this one.
-abbrev pub NumberWritten : List ℕ → Type 0
-NumberWritten text =
-    (number : ℕ)
-    → (number_of text ≡ Some number → (text ≡ decimal number) × (number < 10 ^ 18))
-    × (text ≡ decimal number → number < 10 ^ 18 → number_of text ≡ Some number)
+pub record NumberWritten (text : List ℕ) : Type 0 where
+  pub reads : (number : ℕ) → number_of text ≡ Some number → (text ≡ decimal number) × (number < 10 ^ 18)
+  pub writes : (number : ℕ) → text ≡ decimal number → number < 10 ^ 18 → number_of text ≡ Some number
 
 -- The same of a reading, whose magnitude is below 10^18.
-abbrev pub ReadingWritten : List ℕ → Type 0
-ReadingWritten text =
-    (reading : ℤ)
-    → (reading_of text ≡ Some reading → (text ≡ signed_decimal reading) × (unsigned_abs reading < 10 ^ 18))
-    × (text ≡ signed_decimal reading → unsigned_abs reading < 10 ^ 18 → reading_of text ≡ Some reading)
+pub record ReadingWritten (text : List ℕ) : Type 0 where
+  pub reads : (reading : ℤ) → reading_of text ≡ Some reading → (text ≡ signed_decimal reading) × (unsigned_abs reading < 10 ^ 18)
+  pub writes : (reading : ℤ) → text ≡ signed_decimal reading → unsigned_abs reading < 10 ^ 18 → reading_of text ≡ Some reading

@@ -9,7 +9,7 @@ use Rattle.script.specs.Lines.{lines_of}
 use Rattle.report.specs.Report.{line_text, capacity, text}
 use Rattle.script.specs.Runs.{answered, cleared}
 use Rattle.report.specs.declared.report.Piece.TheVariants.{End, Number}
-use Rattle.report.specs.declared.cursor.Full.{Full}
+use Rattle.report.specs.declared.report.Full.{Full}
 use Rattle.report.specs.declared.report.Report.{Report}
 use Rattle.script.specs.declared.runner.Runner.{Runner}
 use Rattle.script.specs.declared.runner.Stopped.{Stopped}

@@ -8,7 +8,7 @@ ghost use Rattle.script.specs.Numerals.{byte_of};
 
 use crate::lexer::Lexer;
 
-#[derive(Clone, Copy)]
+#[derive(Clone, Copy, Debug, PartialEq, Eq)]
 pub enum Command {
     /// Opens a line, and stows it on the shelf.
     Open { shelf: u8 },
@@ -24,10 +24,7 @@ pub fn read_command(mut fields: Lexer<'_>) -> Option<Command>
 {
     let letter = byte(&mut fields)?;
     let command = arguments(letter, &mut fields)?;
-    match fields.next() {
-        None => Some(command),
-        Some(_) => None,
-    }
+    fields.next().is_none().then_some(command)
 }
 
 /// The command of a letter, with the fields that it takes.

@@ -1,31 +1,24 @@
 //! The fields of a line, read one by one.
 
-ghost use Rattle.std.specs.Prelude.{◌≡◌, ◌-◌, ◌≤◌, [], length, take, drop, MatchOption};
-ghost use Rattle.script.specs.Fields.{fields_of, Parts, part_of, text_of, Lexed, fields_from, left, Gives};
-ghost use Rattle.script.specs.Numerals.{plain_size, number_of, instant_of, reading_of, after_minus, byte_of, NumberWritten, ReadingWritten};
+ghost use Rattle.std.specs.Prelude.{◌≡◌, ◌-◌, ◌<◌, ◌↔◌, length, take, drop, IsNone, IfSome};
+ghost use Rattle.script.specs.Fields.{fields_of, Parts, text_of, IsFieldOf, IsNextPart, Lexed, left};
+ghost use Rattle.script.specs.Numerals.{number_of, instant_of, reading_of, byte_of, NumberWritten, ReadingWritten};
 
-use crate::lines::seek;
+use crate::lines::length_before;
+use std::str;
 
-const TAB: u8 = 9;
-
-const MINUS: u8 = 45;
-
-const ZERO: u8 = 48;
-
+/// The most digits of a number.
 const MAX_DIGITS: usize = 18;
-/// The first number of more digits.
-const NUMBER_LIMIT: u64 = 1_000_000_000_000_000_000;
-
-const MAX_INSTANT: u64 = 4_294_967_295;
 
 /// A part of the script, and where it begins there.
-#[derive(Clone, Copy)]
+#[derive(Clone, Copy, Debug, PartialEq, Eq)]
 pub struct Part<'s> {
     pub place: usize,
     pub text: &'s [u8],
 }
 
-#[derive(Clone, Copy)]
+/// A field of a line.
+#[derive(Clone, Copy, Debug, PartialEq, Eq)]
 pub enum Field<'s> {
     /// 1 to 18 digits without a needless leading zero, and their value.
     Number(Part<'s>, u64),
@@ -41,9 +34,7 @@ impl<'s> Field<'s> {
         ensures { result.now ≡ text_of self.now }
     {
         match *self {
-            Field::Number(part, _) => part.text,
-            Field::Negative(part, _) => part.text,
-            Field::Word(part) => part.text,
+            Field::Number(part, _) | Field::Negative(part, _) | Field::Word(part) => part.text,
         }
     }
 
@@ -62,20 +53,37 @@ impl<'s> Field<'s> {
         ensures { Lexed self.now → result ≡ instant_of (text_of self.now) }
     {
         match *self {
-            Field::Number(_, value) if value <= MAX_INSTANT => Some(value as u32),
+            Field::Number(_, value) => u32::try_from(value).ok(),
             _ => None,
         }
     }
 
     /// The field as a number that may be negative.
+    #[tactic(auto, using(crate::proofs::Readings::readings))]
     pub fn reading(&self) -> Option<i64>
         ensures value { Lexed self.now → result ≡ reading_of (text_of self.now) }
         ensures written { ReadingWritten (text_of self.now) }
     {
         match *self {
-            Field::Number(_, value) if value < NUMBER_LIMIT => Some(value as i64),
-            Field::Negative(_, magnitude) if magnitude < NUMBER_LIMIT => Some(-(magnitude as i64)),
-            _ => None,
+            Field::Number(_, value) => i64::try_from(value).ok(),
+            Field::Negative(_, magnitude) => Some(-i64::try_from(magnitude).ok()?),
+            Field::Word(_) => None,
+        }
+    }
+}
+
+impl<'s> From<Part<'s>> for Field<'s> {
+    ghost from_gives = { IsFieldOf };
+
+    fn from(part: Part<'s>) -> Field<'s> {
+        if let Some(value) = number(part.text) {
+            Field::Number(part, value)
+        } else if let [b'-', digits @ ..] = part.text
+            && let Some(magnitude @ 1..) = number(digits)
+        {
+            Field::Negative(part, magnitude)
+        } else {
+            Field::Word(part)
         }
     }
 }
@@ -90,103 +98,61 @@ pub struct Lexer<'s> {
 
 impl<'s> Lexer<'s> {
     /// For the line from `start` up to `end`, or up to the script's end where that comes first.
+    #[tactic(auto, using(crate::proofs::Lexing::new_fields))]
     pub fn new(script: &'s [u8], start: usize, end: usize) -> Lexer<'s>
         ensures script { result.script.now ≡ take end script.now }
         ensures fields { left result ≡ fields_of (take (end - start) (drop start script.now)) }
         ensures parts { Parts (take (end - start) (drop start script.now)) (left result) }
     {
-        let (start, end) = clamped(script, start, end);
+        let script = &script[..end.min(script.len())];
         Lexer {
-            script: &script[0..end],
-            next: start,
+            script,
+            next: start.min(script.len()),
         }
     }
+
+    /// The next part of the line, up to a tab or to the line's end, or none after the last.
+    /// A `split` at the tabs would not tell the places in the script.
+    fn part(&self) -> Option<Part<'s>>
+        ensures none { IsNone result ↔ (length self.now.script.now < self.now.next) }
+        ensures part { IfSome result (λ part. IsNextPart self.now part) }
+    {
+        let line = self.script.get(self.next..)?;
+        Some(Part {
+            place: self.next,
+            text: &line[..length_before(line, b'\t')],
+        })
+    }
+}
+
+impl<'s> Iterator for Lexer<'s> {
+    ghost use Rattle.std.specs.Iterator.{item_count};
+    ghost use Rattle.script.specs.Fields.{GivesNext, left};
+
+    type Item = Field<'s>;
+
+    ghost next_gives = { GivesNext };
+
+    ghost remaining = { item_count left };
 
     /// The next field, or none after the last.
-    pub fn next(&mut self) -> Option<Field<'s>>
-        ensures gives { MatchOption result ((left self.old ≡ []) × (self.new ≡ self.old)) (λ field. Gives self.old field self.new) }
-        ensures script { self.new.script ≡ self.old.script }
-    {
-        let script = self.script;
-        let place = self.next;
-        if place > script.len() {
-            return None;
-        }
-        let end = seek(script, place, TAB);
-        self.next = end + 1;
-        Some(classified(cut(script, place, end)))
+    #[tactic(auto, using(crate::proofs::Lexing::field_given))]
+    fn next(&mut self) -> Option<Field<'s>> {
+        let part = self.part()?;
+        self.next += part.text.len() + 1;
+        Some(Field::from(part))
     }
-}
-
-/// The bounds of a line, put within the script and in order.
-fn clamped(script: &[u8], start: usize, end: usize) -> (usize, usize)
-    ensures order { (result.0 ≤ result.1) × (result.1 ≤ length script.now) }
-    ensures script { take result.1 script.now ≡ take end script.now }
-    ensures fields { fields_from (take result.1 script.now) result.0 ≡ fields_of (take (end - start) (drop start script.now)) }
-    ensures parts { Parts (take (end - start) (drop start script.now)) (fields_from (take result.1 script.now) result.0) }
-{
-    let end = end.min(script.len());
-    (start.min(end), end)
-}
-
-/// The part of the script from `place` up to `end`.
-fn cut(script: &[u8], place: usize, end: usize) -> Part<'_>
-    requires { (place ≤ end) × (end ≤ length script.now) }
-    ensures place { result.place ≡ place }
-    ensures text { result.text.now ≡ take (end - place) (drop place script.now) }
-{
-    Part {
-        place,
-        text: &script[place..end],
-    }
-}
-
-/// The field that a part of the script is.
-fn classified<'s>(part: Part<'s>) -> Field<'s>
-    ensures place { (part_of result).place ≡ part.entry.place }
-    ensures text { text_of result ≡ part.entry.text.now }
-    ensures lexed { Lexed result }
-{
-    if let Some(value) = number(part.text) {
-        return Field::Number(part, value);
-    }
-    match after_minus(part.text) {
-        Some(value) if value > 0 => Field::Negative(part, value),
-        _ => Field::Word(part),
-    }
-}
-
-/// The number after a minus sign.
-fn after_minus(text: &[u8]) -> Option<u64>
-    ensures { result ≡ after_minus text.now }
-{
-    if text.is_empty() || text[0] != MINUS {
-        return None;
-    }
-    number(&text[1..])
 }
 
 /// The number that a text writes: 1 to 18 digits without a needless leading zero.
+#[tactic(auto, using(crate::proofs::Digits::number_written))]
 pub fn number(text: &[u8]) -> Option<u64>
     ensures value { result ≡ number_of text.now }
     ensures written { NumberWritten text.now }
 {
-    if !plain_size(text) {
-        return None;
+    match text {
+        [b'0'] => Some(0),
+        [b'1'..=b'9', ..] if text.len() <= MAX_DIGITS => str::from_utf8(text).ok()?.parse().ok(),
+        _ => None,
     }
-    let mut value: u64 = 0;
-    for digit in text {
-        if !digit.is_ascii_digit() {
-            return None;
-        }
-        value = value * 10 + (*digit - ZERO) as u64;
-    }
-    Some(value)
-}
-
-/// 1 to 18 bytes, and a zero in front only where it stands alone.
-fn plain_size(text: &[u8]) -> bool
-    ensures { result ≡ plain_size text.now }
-{
-    text.len() >= 1 && text.len() <= MAX_DIGITS && (text.len() == 1 || text[0] != ZERO)
 }

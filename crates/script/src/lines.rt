@@ -1,23 +1,15 @@
 //! Where a line of a script ends.
 
-ghost use Rattle.std.specs.Prelude.{◌≡◌, ℕ, ◌+◌, ◌-◌, ◌<◌, ◌≤◌, ◌∷◌, length, drop, ◌≢◌, slice_index, slice_range};
+ghost use Rattle.std.specs.Prelude.{◌≡◌, ◌+◌, ◌-◌, ◌<◌, ◌≤◌, ◌==◌, not, ◌∷◌, length, drop, slice_range};
+ghost use Rattle.std.specs.List.{prefix_len};
 ghost use Rattle.script.specs.Lines.{lines_of};
 
-const LINE_FEED: u8 = 10;
-
-/// The index of the first `stop` at or after `start`, or the length where there is none.
-pub(crate) fn seek(bytes: &[u8], start: usize, stop: u8) -> usize
-    requires { start ≤ length bytes.now }
+/// How many bytes stand before the first `stop`, or all where there is none.
+pub(crate) fn length_before(bytes: &[u8], stop: u8) -> usize
+    ensures value { result ≡ prefix_len (λ byte. not (byte == stop)) bytes.now }
     ensures within { result ≤ length bytes.now }
-    ensures after { start ≤ result }
-    ensures before { (k : ℕ) → start ≤ k → k < result → slice_index bytes.now k ≢ stop }
-    ensures found { result < length bytes.now → slice_index bytes.now result ≡ stop }
 {
-    let mut at = start;
-    while at < bytes.len() && bytes[at] != stop {
-        at += 1;
-    }
-    at
+    bytes.iter().take_while(|byte| **byte != stop).count()
 }
 
 /// Where the line that begins at `start` ends: at the next line feed, or at the script's end.
@@ -30,5 +22,5 @@ pub fn line_end(script: &[u8], start: usize) -> usize
     if start >= script.len() {
         return script.len();
     }
-    seek(script, start, LINE_FEED)
+    start + length_before(&script[start..], b'\n')
 }

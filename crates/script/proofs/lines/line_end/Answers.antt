@@ -1,13 +1,5 @@
-use Rattle.script.proofs.Cuts.{line_at}
+use Rattle.script.proofs.Cuts.{line-at}
 use Rattle.script.proofs.lines.line_end.Goals as goal
-use Rattle.std.proofs.Common.{arith}
 
-pub returns : goal.returns
-returns c =
-    let told = c.seek.ensures in
-    record {
-      within = told.within;
-      after = λ _. told.after;
-      past = λ end. omega arith;
-      line = λ some. line_at c.args.script.now c.args.start c.seek.result some told.after told.within told.before told.found;
-    }
+pub returns-clause-line : goal.returns-clause-line
+returns-clause-line c = λ some. line-at c.args.script.now c.args.start c.length_before.result some c.length_before.ensures.value
