@@ -30,7 +30,7 @@ pub struct Report<'m> {
 
 impl<'m> Report<'m> {
     ghost use Rattle.std.specs.Prelude.{◌≡◌};
-    ghost use Rattle.report.specs.Report.{capacity, held, lender, line_text, Lined, text_of, used};
+    ghost use Rattle.report.specs.Report.{KeepsRoom, held, lender, line_text, Lined, text_of, used};
     ghost use Rattle.report.specs.Writing.{Writes};
 
     /// An empty report over `bytes`.
@@ -51,8 +51,7 @@ impl<'m> Report<'m> {
 
     /// Writes one line, whole or not at all.
     pub fn line(&mut self, pieces: &[Piece]) -> Result<(), Full>
-        ensures lent { lender self.new ≡ lender self.old }
-        ensures kept { capacity self.new ≡ capacity self.old }
+        ensures same { KeepsRoom self.old self.new }
         ensures lined { Lined self.old pieces.now result self.new }
     {
         let open = OpenLine {

@@ -6,7 +6,7 @@ use Rattle.register.specs.declared.refusal.Refusal.TheVariants.{ReportFull}
 use Rattle.script.specs.Answers.{counts_as}
 use Rattle.script.specs.Fields.{fields_of}
 use Rattle.script.specs.Lines.{lines_of, on_first}
-use Rattle.report.specs.Report.{capacity, held, line_text, text, used, LineAdded, LineRefused}
+use Rattle.report.specs.Report.{KeepsRoom, capacity, held, line_text, text, used, LineAdded, LineRefused}
 use Rattle.script.specs.Runs.{answered, cleared}
 use Rattle.script.specs.Scripts.{Along, Finished, all_fit, answer_line, end_line, ended, kept, refusals, report_from}
 use Rattle.report.specs.declared.report.Full.{Full}
@@ -14,6 +14,9 @@ use Rattle.report.specs.declared.report.Piece.{Piece}
 use Rattle.report.specs.declared.report.Piece.TheVariants.{End, Number}
 use Rattle.report.specs.declared.report.Report.{Report}
 use Rattle.script.proofs.Fitting.{along-more, along-full, along-end}
+
+pub same-then : {before between after : Report} → KeepsRoom before between → KeepsRoom between after → KeepsRoom before after
+same-then first then = record { lent = then.lent ∙ first.lent; kept = then.kept ∙ first.kept }
 
 -- a report's text is as long as it says
 text-length : (r : Report) → length (text r) ≡ used r

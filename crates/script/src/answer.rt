@@ -3,7 +3,7 @@
 ghost use Rattle.std.specs.Prelude.{◌≡◌, pos};
 ghost use Rattle.report.specs.declared.report.Piece.TheVariants.{Number};
 ghost use Rattle.script.specs.Answers.{answer_pieces};
-ghost use Rattle.report.specs.Report.{capacity, lender, Lined};
+ghost use Rattle.report.specs.Report.{KeepsRoom, Lined};
 
 use register::{Refusal, Tally};
 use report::{Full, Piece, Report};
@@ -30,8 +30,7 @@ pub(crate) fn write_answer(
     number: u32,
     answer: Result<Reply, Refusal>,
 ) -> Result<(), Full>
-    ensures lent { lender report.new ≡ lender report.old }
-    ensures kept { capacity report.new ≡ capacity report.old }
+    ensures same { KeepsRoom report.old report.new }
     ensures lined { Lined report.old (answer_pieces number answer) result report.new }
 {
     let number = counted(number);

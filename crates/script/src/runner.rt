@@ -4,7 +4,7 @@ ghost use Rattle.std.specs.Prelude.{◌≡◌, ◌+◌, ◌<◌, ◌≤◌, min,
 ghost use Rattle.register.specs.Lines.{at_rest, retired};
 ghost use Rattle.register.specs.Shown.{shown, newly_made};
 ghost use Rattle.script.specs.Fields.{left};
-ghost use Rattle.report.specs.Report.{lender, capacity, used, LineAdded, LineRefused};
+ghost use Rattle.report.specs.Report.{KeepsRoom, LineAdded, LineRefused, used};
 ghost use Rattle.script.specs.Runs.{opened_on, retired_on, answered, cleared};
 ghost use Rattle.script.specs.Scripts.{refusals, answer_line, report_of, RanLines, Finished, TooLong, Reported};
 
@@ -96,8 +96,7 @@ impl Runner<'_> {
     /// Carries out the line of these fields, and reports it.
     fn run_line(&mut self, report: &mut Report<'_>, fields: Lexer<'_>) -> Result<(), Full>
         requires { self.old.refused < 32768 }
-        ensures lent { lender report.new ≡ lender report.old }
-        ensures kept { capacity report.new ≡ capacity report.old }
+        ensures same { KeepsRoom report.old report.new }
         ensures after { shown self.new.register ≡ (answered (shown self.old.register) (left fields.entry)).1 }
         ensures counted { self.new.lines ≡ self.old.lines }
         ensures refused { OnOk result (self.new.refused ≡ self.old.refused + refusals (shown self.old.register) (left fields.entry)) }
@@ -113,8 +112,7 @@ impl Runner<'_> {
     fn run_lines(&mut self, report: &mut Report<'_>, script: &[u8]) -> Result<(), Full>
         requires short { length script.now ≤ 32768 }
         requires first { (self.old.lines ≡ 0) × (self.old.refused ≡ 0) }
-        ensures lent { lender report.new ≡ lender report.old }
-        ensures kept { capacity report.new ≡ capacity report.old }
+        ensures same { KeepsRoom report.old report.new }
         ensures ran { used report.old ≡ 0 → RanLines (report_of (shown self.old.register) script.now) result self.new report.new }
     {
         for line in ScriptLines::new(script) {
@@ -131,8 +129,7 @@ impl Runner<'_> {
     fn run_whole(&mut self, report: &mut Report<'_>, script: &[u8]) -> Result<(), Full>
         requires short { length script.now ≤ 32768 }
         requires first { (self.old.lines ≡ 0) × (self.old.refused ≡ 0) }
-        ensures lent { lender report.new ≡ lender report.old }
-        ensures kept { capacity report.new ≡ capacity report.old }
+        ensures same { KeepsRoom report.old report.new }
         ensures finished { used report.old ≡ 0 → Finished (report_of (shown self.old.register) script.now) result report.new }
     {
         let ran = self.run_lines(report, script);

@@ -1,6 +1,6 @@
 use Rattle.std.proofs.Common.{◌≡◌, ◌+◌, ◌≤◌, length}
 use Rattle.register.specs.Shown.{shown}
-use Rattle.report.specs.Report.{capacity, lender, text, used}
+use Rattle.report.specs.Report.{KeepsRoom, capacity, text, used}
 use Rattle.script.specs.Lines.{lines_of}
 use Rattle.script.specs.Scripts.{Along, report_from, report_of}
 use Rattle.script.proofs.runner.Runner.run_lines.Given as goal
@@ -12,7 +12,6 @@ invariant-loop-line l =
     record {
       counted : l.self.lines + length left ≤ 32768;
       fewer : l.self.refused ≤ l.self.lines;
-      lent : lender l.report ≡ lender l.initial.report;
-      kept : capacity l.report ≡ capacity l.initial.report;
+      same : KeepsRoom l.initial.report l.report;
       along : used l.initial.report ≡ 0 → Along (capacity l.report) (report_of (shown l.initial.self.register) l.fn.script) (text l.report) (report_from l.self.lines l.self.refused (shown l.self.register) left);
     }
