@@ -1,2 +1,2 @@
 mod LineText
-mod Writing
+pub mod Writing

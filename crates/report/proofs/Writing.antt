@@ -6,10 +6,12 @@ use Rattle.report.specs.Writing.{Added, Lacking, Writes}
 use Rattle.report.specs.declared.report.Full.{Full}
 use Rattle.report.specs.declared.report.Report.{Report}
 
-text-length : (r : Report) → length (text r) ≡ used r
+-- a report's text is as long as it says
+pub text-length : (r : Report) → length (text r) ≡ used r
 text-length r = length-take (used r) (held r) ∙ (let h : used r ≤ capacity r = r.within in omega arith)
 
-same-then : {p q r : Report} → KeepsRoom p q → KeepsRoom q r → KeepsRoom p r
+-- what two calls keep, one keeps after the other
+pub same-then : {p q r : Report} → KeepsRoom p q → KeepsRoom q r → KeepsRoom p r
 same-then a b = record { lent = b.lent ∙ a.lent; kept = b.kept ∙ a.kept }
 
 pub added_then : {p q r : Report} {t u : List ℕ} → Added p t q → Added q u r → Added p (t ++ u) r

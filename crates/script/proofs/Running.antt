@@ -1,26 +1,19 @@
 -- The steps of a run through the lines of a script.
 use Rattle.std.proofs.Common.{suc, eqb, ◌≡◌, ℕ, ◌+◌, ◌<◌, ◌≤◌, true, false, cond, List, [], ◌∷◌, length, take, pos, Ok, Err, Result, MatchResult, sym, refl, ap, ◌∙◌, subst, arith}
-use Rattle.std.proofs.lemmas.List.{length-take}
 use Rattle.register.specs.Shown.{Shown}
 use Rattle.register.specs.declared.refusal.Refusal.TheVariants.{ReportFull}
 use Rattle.script.specs.Answers.{counts_as}
 use Rattle.script.specs.Fields.{fields_of}
 use Rattle.script.specs.Lines.{lines_of, on_first}
-use Rattle.report.specs.Report.{KeepsRoom, capacity, held, line_text, text, used, LineAdded, LineRefused}
+use Rattle.report.specs.Report.{capacity, held, line_text, text, used, LineAdded, LineRefused}
 use Rattle.script.specs.Runs.{answered, cleared}
 use Rattle.script.specs.Scripts.{Along, Finished, all_fit, answer_line, end_line, ended, kept, refusals, report_from}
 use Rattle.report.specs.declared.report.Full.{Full}
 use Rattle.report.specs.declared.report.Piece.{Piece}
 use Rattle.report.specs.declared.report.Piece.TheVariants.{End, Number}
 use Rattle.report.specs.declared.report.Report.{Report}
+use Rattle.report.proofs.Writing.{text-length}
 use Rattle.script.proofs.Fitting.{along-more, along-full, along-end}
-
-pub same-then : {before between after : Report} → KeepsRoom before between → KeepsRoom between after → KeepsRoom before after
-same-then first then = record { lent = then.lent ∙ first.lent; kept = then.kept ∙ first.kept }
-
--- a report's text is as long as it says
-text-length : (r : Report) → length (text r) ≡ used r
-text-length r = length-take (used r) (held r) ∙ (let h : used r ≤ capacity r = r.within in omega arith)
 
 -- a line that is empty, and one that is not
 report-empty : (lines refused : ℕ) (s : Shown) (line : List ℕ) (rest : List (List ℕ)) → length line ≡ 0 → report_from lines refused s (line ∷ rest) ≡ report_from (lines + 1) refused s rest

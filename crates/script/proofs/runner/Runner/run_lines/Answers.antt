@@ -4,7 +4,8 @@ use Rattle.register.specs.Shown.{shown}
 use Rattle.script.specs.Fields.{fields_of, left}
 use Rattle.script.specs.Lines.{lines_of}
 use Rattle.script.specs.Scripts.{report_of}
-use Rattle.script.proofs.Running.{lines-le, refusals-le, turn-empty, turn-line, same-then, turn-full, turn-none}
+use Rattle.report.proofs.Writing.{same-then}
+use Rattle.script.proofs.Running.{lines-le, refusals-le, turn-empty, turn-line, turn-full, turn-none}
 use Rattle.script.proofs.runner.Runner.run_lines.Goals as goal
 
 pub loop-line-init : goal.loop-line-init
