@@ -207,7 +207,7 @@ doubled-ready p lower upper middle inner nested l (fork key word tall within bef
 
 -- ---- seen from an end: what is on the end first
 
--- what holds of two holds of the one by the end
+-- what holds of both holds of the one by the end
 both : (e : End) (P : Tree → Type 0) (t u : Tree) → P t → P u → P (at_end e t u)
 both First P t u x y = x
 both Last P t u x y = y
@@ -218,7 +218,7 @@ turned : (e : End) (p : Pool) (root : Node) (left right : ℕ) (nested l r : Tre
 turned First p root left right nested l r hs h = h
 turned Last p root left right nested l r hs h = reversed p (held left l) (held root.nested nested) (held right r) hs h
 
--- the owners of the nested trees of two roots, one the root of a side of the other, and of three sides
+-- the owners of the nested trees of two roots, of which x was on a side of the other, and of three sides
 three-turned : (e : End) (p : Pool) (x root lower upper : Node) (outer middle far : ℕ) (inner nested o m f : Tree) (hs : List Held)
     → outer ≡ at_end e x.left x.right → far ≡ at_end e root.right root.left → lower ≡ at_end e x root → upper ≡ at_end e root x
     → Holds p (three_sides x root outer middle far inner nested o m f hs)
@@ -237,9 +237,7 @@ Joins e p q root near far n =
 module _ (e : End) (p : Pool) (root x : Node) (near far : ℕ) (is : x ≡ over root (at_end e near far) (at_end e far near)) where
   pub joins : (q : Pool) (n : ℕ) → Puts node p q x x.left x.right n → Joins e p q root near far n
   joins q n put nested s t hs h =
-      let put-over : Puts node p q (over root (at_end e near far) (at_end e far near)) (at_end e near far) (at_end e far near) n =
-      subst (λ (y : Node). Puts node p q y y.left y.right n) is put in
-      put-over nested (at_end e s t) (at_end e t s) hs (turned e p root near far nested s t hs h)
+      subst (λ (y : Node). Puts node p q y y.left y.right n) is put nested (at_end e s t) (at_end e t s) hs (turned e p root near far nested s t hs h)
 
   buildable : (nested s t : Tree) (hs : List Held) → Holds p (sides root near far nested s t hs) → height s ≤ 254 → height t ≤ 254 → Buildable p x
   buildable nested s t hs h low-s low-t =
@@ -260,6 +258,7 @@ module _ (e : End) (p : Pool) (root x : Node) (near far : ℕ) (is : x ≡ over 
 abbrev rotated : End → Words → ℤ → Tree → Tree → Tree → Tree
 rotated e words word nested near far = at_end e rotate_right rotate_left words word nested (at_end e near far) (at_end e far near)
 
+-- a double rotation of the code gives the root rotated
 double-is : (e : End) (x root lower upper : Node) (key : Words) (word : ℤ) (tall : ℕ) (inner before behind nested far : Tree)
     → lower ≡ at_end e x root → upper ≡ at_end e root x → x.key ≡ key → x.word ≡ word → height (at_end e before behind) < height (at_end e behind before)
     → rotate_double lower.key lower.word (at_end e inner nested) upper.key upper.word (at_end e nested inner) (at_end e (at_end e before behind) far)
@@ -270,6 +269,7 @@ double-is First x root lower upper key word tall inner before behind nested far 
 double-is Last x root lower upper key word tall inner before behind nested far low high k w h =
     rw (low, high, k, w) (sym (rotate_left-double root.key root.word nested key word tall inner far before behind h))
 
+-- and so does a single one
 single-is : (e : End) (x root : Node) (key : Words) (word : ℤ) (tall : ℕ) (inner before behind nested far below : Tree)
     → below ≡ node root.key root.word nested (at_end e (at_end e behind before) far) (at_end e far (at_end e behind before))
     → x.key ≡ key → x.word ≡ word → height (at_end e behind before) ≤ height (at_end e before behind)
@@ -333,7 +333,7 @@ pub faced : (e : End) {root : Node} {near far : ℕ} → 0 < at_end e root.left 
     → far ≡ at_end e root.right root.left → Faced e root near far
 faced e numbered on off = record { numbered = omega arith; near_is = on; far_is = off }
 
--- what holds where the near side has nodes holds
+-- what holds wherever the near side has nodes holds of the root's own sides
 by-end : (e : End) {p : Pool} {root : Node} {near far : ℕ} → Faced e root near far → (P : Tree → Tree → Tree → List Held → Type 0)
     → ((d : High e p root near far) → P d.nested (at_end e (near_tree d) d.other) (at_end e d.other (near_tree d)) d.others) → (nested l r : Tree)
     (hs : List Held) → Holds p (sides root root.left root.right nested l r hs) → P nested l r hs
@@ -427,7 +427,8 @@ module _ {e : End} {p q : Pool} {root x : Node} {near far outer middle : ℕ} (s
         d.others three-held
 
     module _ (lower upper : Node) (low_is : lower ≡ at_end e x root) (high_is : upper ≡ at_end e root x) where
-      three-ready : Holds q (three_sides lower upper lower.left middle upper.right (at_end e d.inner d.nested) (at_end e d.nested d.inner) (at_end e (outer_tree d) d.other) (between d) (at_end e d.other (outer_tree d)) d.others)
+      three-ready : Holds q (three_sides lower upper lower.left middle upper.right (at_end e d.inner d.nested) (at_end e d.nested d.inner)
+          (at_end e (outer_tree d) d.other) (between d) (at_end e d.other (outer_tree d)) d.others)
       three-ready =
           three-turned e q x root lower upper outer middle far d.inner d.nested (outer_tree d) (between d) d.other d.others s.outer_is s.faced.far_is
           low_is high_is three-held

@@ -13,14 +13,15 @@ pub(crate) enum End {
 }
 
 impl End {
-    /// The two as they are seen from this end: swapped at the last.
-    pub(crate) fn turned<T>(self, left: T, right: T) -> (T, T)
-        ensures near { result.0 ≡ at_end self left right }
-        ensures far { result.1 ≡ at_end self right left }
+    /// The two in this order at the first end, swapped at the last: so left and right become near and far, and near and far
+    /// become left and right.
+    pub(crate) fn turned<T>(self, first: T, second: T) -> (T, T)
+        ensures first { result.0 ≡ at_end self first second }
+        ensures second { result.1 ≡ at_end self second first }
     {
         match self {
-            End::First => (left, right),
-            End::Last => (right, left),
+            End::First => (first, second),
+            End::Last => (second, first),
         }
     }
 

@@ -11,7 +11,6 @@ ghost use Rattle.tree.specs.Grown.{Grown};
 ghost use Rattle.tree.specs.Ready.{Balanceable, Buildable, Doubled, sides, three_sides};
 ghost use Rattle.tree.specs.Rebuild.{balance as balanced, node, rotate_double, rotate_left, rotate_right};
 ghost use Rattle.tree.specs.Shape.{height};
-ghost use Rattle.tree.specs.declared.end.End.TheVariants.{Last};
 
 use crate::end::End;
 use pool::{Node, Pool};
@@ -95,7 +94,7 @@ fn rotate(pool: &mut Pool<'_>, root: Node, end: End) -> u16
     requires room { used_of pool.old + 3 ≤ length (memory_of pool.old) }
     ensures owned { (nested l r : Tree) (hs : List Held) → Holds pool.old (sides root nested l r hs) → Holds pool.new (held result (at_end end rotate_right rotate_left root.key root.word nested l r) ∷ hs) }
     ensures grown { Grown pool.old pool.new 3 result }
-    ensures single { (nested l r : Tree) (hs : List Held) → Holds pool.old (sides root nested l r hs) → end ≡ Last → LeansRight r → (node_at (memory_of pool.old) root.right).count ≡ 1 → used_of pool.new ≡ used_of pool.old + 1 }
+    ensures single { end ≡ End.Last → (nested l r : Tree) (hs : List Held) → Holds pool.old (sides root nested l r hs) → LeansRight r → (node_at (memory_of pool.old) root.right).count ≡ 1 → used_of pool.new ≡ used_of pool.old + 1 }
 {
     let (near, far) = end.turned(root.left, root.right);
     let child = pool.take_apart(near);

@@ -86,7 +86,7 @@ returns-then-is_too_high-2 c =
           let x = m l (left-carries _ c.args.root _ c.args.root.right nested l r hs h) in
           let y = n r (right-carries _ c.args.root c.args.root.left _ nested l r hs h) in
           absurd (omega (arith, test));
-      single = λ nested l r hs h high. c.rotate-then-is_too_high-2.ensures.single nested l r hs h refl;
+      single = λ nested l r hs h high. c.rotate-then-is_too_high-2.ensures.single refl nested l r hs h;
     }
 
 pub returns-else-is_too_high-2 : goal.returns-else-is_too_high-2
