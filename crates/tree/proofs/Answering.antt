@@ -17,8 +17,8 @@ use Rattle.tree.specs.Ends.{at_end}
 use Rattle.tree.specs.Kind.{Kind}
 use Rattle.tree.specs.Lookup.{by_order, or_else, find, at_most, after, first, last, item_at, last_at_most, first_after, first_of, last_of}
 use Rattle.tree.specs.Shape.{Ascending, Item, item, items}
-use Rattle.tree.specs.declared.lookup.End.{End}
-use Rattle.tree.specs.declared.lookup.End.TheVariants.{First, Last}
+use Rattle.tree.specs.declared.end.End.{End}
+use Rattle.tree.specs.declared.end.End.TheVariants.{First, Last}
 
 -- ---- no tree has no item
 

@@ -13,8 +13,8 @@ use Rattle.tree.specs.Ends.{at_end}
 use Rattle.tree.specs.Lookup.{by_order}
 use Rattle.tree.specs.Readable.{Readable}
 use Rattle.tree.specs.Shape.{Balanced, height}
-use Rattle.tree.specs.declared.lookup.End.{End}
-use Rattle.tree.specs.declared.lookup.End.TheVariants.{First, Last}
+use Rattle.tree.specs.declared.end.End.{End}
+use Rattle.tree.specs.declared.end.End.TheVariants.{First, Last}
 
 -- no node carries the leaf
 pub by-none : (p : Pool) (n : ℕ) → n ≡ 0 → (P : Tree → Type 0) → P leaf → (t : Tree) → Carries p n t → P t

@@ -46,3 +46,13 @@ module _ (p : Pool) (a b c d : Held) (hs : List Held) where
   first-fourth =
       holds-reordered p (a ∷ b ∷ c ∷ d ∷ hs) (b ∷ c ∷ d ∷ a ∷ hs) (λ m. omega arith)
       (λ k. (k.1.0, (k.1.1.0, (k.1.1.1.0, (k.0, k.1.1.1.1)))))
+
+module _ (p : Pool) (a b c : Held) (hs : List Held) where
+  pub reversed : Holds p (a ∷ b ∷ c ∷ hs) → Holds p (c ∷ b ∷ a ∷ hs)
+  reversed = holds-reordered p (a ∷ b ∷ c ∷ hs) (c ∷ b ∷ a ∷ hs) (λ m. omega arith) (λ k. (k.1.1.0, (k.1.0, (k.0, k.1.1.1))))
+
+module _ (p : Pool) (a b c d e : Held) (hs : List Held) where
+  pub five-reversed : Holds p (a ∷ b ∷ c ∷ d ∷ e ∷ hs) → Holds p (e ∷ d ∷ c ∷ b ∷ a ∷ hs)
+  five-reversed =
+      holds-reordered p (a ∷ b ∷ c ∷ d ∷ e ∷ hs) (e ∷ d ∷ c ∷ b ∷ a ∷ hs) (λ m. omega arith)
+      (λ k. (k.1.1.1.1.0, (k.1.1.1.0, (k.1.1.0, (k.1.0, (k.0, k.1.1.1.1.1))))))

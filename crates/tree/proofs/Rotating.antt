@@ -1,22 +1,25 @@
 -- What a pool holds on the way through a rotation.
-use Rattle.std.proofs.Common.{◌≡◌, ℕ, suc, ◌+◌, ◌^◌, ◌<◌, ◌≤◌, max, List, ◌∷◌, length, ℤ, sym, subst, inl, inr, arith}
+use Rattle.std.proofs.Common.{◌≡◌, ℕ, suc, ◌+◌, ◌^◌, ◌<◌, ◌≤◌, max, List, ◌∷◌, length, ℤ, sym, refl, ap, ◌∙◌, subst, inl, inr, arith}
 use Rattle.std.proofs.lemmas.Bool.{cases_lt}
 use Rattle.pool.proofs.Pools.{held-carries, held-used}
 use Rattle.pool.specs.Held.{Carries, Held, Holds, TakenApart, held}
 use Rattle.pool.specs.Node.{node_at}
-use Rattle.pool.specs.Sound.{memory_of}
+use Rattle.pool.specs.Sound.{memory_of, used_of}
 use Rattle.pool.specs.Tree.{Tree, fork, leaf}
 use Rattle.pool.specs.declared.node.Node.{Node}
 use Rattle.pool.specs.declared.node.Words.{Words}
 use Rattle.pool.specs.declared.pool.Pool.{Pool}
 use Rattle.tree.proofs.Building.{left-carries, right-carries}
-use Rattle.tree.proofs.Permuted.{third-first, first-third, three-behind-two, two-behind-three}
+use Rattle.tree.proofs.Permuted.{first-third, five-reversed, reversed, third-first, three-behind-two, two-behind-three}
 use Rattle.tree.proofs.Steps.{rotate_double-fork, rotate_left-double, rotate_left-single, rotate_right-double, rotate_right-single}
 use Rattle.tree.specs.Append.{LeansRight}
-use Rattle.tree.proofs.Sides.{sides, three_sides}
-use Rattle.tree.specs.Ready.{Balanceable, Doubled}
+use Rattle.tree.proofs.Sides.{over, sides, three_sides}
+use Rattle.tree.specs.Ends.{at_end}
+use Rattle.tree.specs.Ready.{Balanceable, Buildable, Doubled}
 use Rattle.tree.specs.Rebuild.{node, rotate_double, rotate_left, rotate_right}
 use Rattle.tree.specs.Shape.{Balanced, height}
+use Rattle.tree.specs.declared.end.End.{End}
+use Rattle.tree.specs.declared.end.End.TheVariants.{First, Last}
 
 -- ---- what the calls do to the owners
 
@@ -202,304 +205,312 @@ doubled-ready p lower upper middle inner nested l (fork key word tall within bef
       low_right = omega arith;
     }
 
--- ---- the left side comes up
+-- ---- seen from an end: what is on the end first
 
--- a root with two sides, of which the left one has nodes
-pub record HighLeft (p : Pool) (root : Node) (left right : ℕ) : Type 0 where
+-- what holds of both holds of the one by the end
+both : (e : End) (P : Tree → Type 0) (t u : Tree) → P t → P u → P (at_end e t u)
+both First P t u x y = x
+both Last P t u x y = y
+
+-- the owners of a root's nested tree and of its two sides
+turned : (e : End) (p : Pool) (root : Node) (left right : ℕ) (nested l r : Tree) (hs : List Held) → Holds p (sides root left right nested l r hs)
+    → Holds p (sides root (at_end e left right) (at_end e right left) nested (at_end e l r) (at_end e r l) hs)
+turned First p root left right nested l r hs h = h
+turned Last p root left right nested l r hs h = reversed p (held left l) (held root.nested nested) (held right r) hs h
+
+-- the owners of the nested trees of two roots, of which x was on a side of the other, and of three sides
+three-turned : (e : End) (p : Pool) (x root lower upper : Node) (outer middle far : ℕ) (inner nested o m f : Tree) (hs : List Held)
+    → outer ≡ at_end e x.left x.right → far ≡ at_end e root.right root.left → lower ≡ at_end e x root → upper ≡ at_end e root x
+    → Holds p (three_sides x root outer middle far inner nested o m f hs)
+    → Holds p (three_sides lower upper lower.left middle upper.right (at_end e inner nested) (at_end e nested inner) (at_end e o f) m (at_end e f o) hs)
+three-turned First p x root lower upper outer middle far inner nested o m f hs on off low high h = rw (low, high) (rw (on, off) at h)
+three-turned Last p x root lower upper outer middle far inner nested o m f hs on off low high h =
+    rw (low, high)
+    (five-reversed p (held x.right o) (held x.nested inner) (held middle m) (held root.nested nested) (held root.left f) hs (rw (on, off) at h))
+
+-- two sides are put under a root
+abbrev pub Joins : End → Pool → Pool → Node → ℕ → ℕ → ℕ → Type 0
+Joins e p q root near far n =
+    (nested s t : Tree) (hs : List Held) → Holds p (sides root near far nested s t hs)
+    → Holds q (held n (node root.key root.word nested (at_end e s t) (at_end e t s)) ∷ hs)
+
+module _ (e : End) (p : Pool) (root x : Node) (near far : ℕ) (is : x ≡ over root (at_end e near far) (at_end e far near)) where
+  pub joins : (q : Pool) (n : ℕ) → Puts node p q x x.left x.right n → Joins e p q root near far n
+  joins q n put nested s t hs h =
+      subst (λ (y : Node). Puts node p q y y.left y.right n) is put nested (at_end e s t) (at_end e t s) hs (turned e p root near far nested s t hs h)
+
+  buildable : (nested s t : Tree) (hs : List Held) → Holds p (sides root near far nested s t hs) → height s ≤ 254 → height t ≤ 254 → Buildable p x
+  buildable nested s t hs h low-s low-t =
+      subst (Buildable p) (sym is)
+      (record {
+        nested = nested;
+        l = at_end e s t;
+        r = at_end e t s;
+        others = hs;
+        holds = turned e p root near far nested s t hs h;
+        low_left = both e (λ (u : Tree). height u ≤ 254) s t low-s low-t;
+        low_right = both e (λ (u : Tree). height u ≤ 254) t s low-t low-s;
+      })
+
+-- ---- a rotation: the side on an end comes up
+
+-- the root rotated, over the near side and the far one
+abbrev rotated : End → Words → ℤ → Tree → Tree → Tree → Tree
+rotated e words word nested near far = at_end e rotate_right rotate_left words word nested (at_end e near far) (at_end e far near)
+
+-- a double rotation of the code gives the root rotated
+double-is : (e : End) (x root lower upper : Node) (key : Words) (word : ℤ) (tall : ℕ) (inner before behind nested far : Tree)
+    → lower ≡ at_end e x root → upper ≡ at_end e root x → x.key ≡ key → x.word ≡ word → height (at_end e before behind) < height (at_end e behind before)
+    → rotate_double lower.key lower.word (at_end e inner nested) upper.key upper.word (at_end e nested inner) (at_end e (at_end e before behind) far)
+    (at_end e behind before) (at_end e far (at_end e before behind))
+    ≡ rotated e root.key root.word nested (fork key word tall inner before behind) far
+double-is First x root lower upper key word tall inner before behind nested far low high k w h =
+    rw (low, high, k, w) (sym (rotate_right-double root.key root.word nested key word tall inner before behind far h))
+double-is Last x root lower upper key word tall inner before behind nested far low high k w h =
+    rw (low, high, k, w) (sym (rotate_left-double root.key root.word nested key word tall inner far before behind h))
+
+-- and so does a single one
+single-is : (e : End) (x root : Node) (key : Words) (word : ℤ) (tall : ℕ) (inner before behind nested far below : Tree)
+    → below ≡ node root.key root.word nested (at_end e (at_end e behind before) far) (at_end e far (at_end e behind before))
+    → x.key ≡ key → x.word ≡ word → height (at_end e behind before) ≤ height (at_end e before behind)
+    → node x.key x.word inner (at_end e (at_end e before behind) below) (at_end e below (at_end e before behind))
+    ≡ rotated e root.key root.word nested (fork key word tall inner before behind) far
+single-is First x root key word tall inner before behind nested far below is k w h =
+    rw (is, k, w) (sym (rotate_right-single root.key root.word nested key word tall inner before behind far h))
+single-is Last x root key word tall inner before behind nested far below is k w h =
+    rw (is, k, w) (sym (rotate_left-single root.key root.word nested key word tall inner far before behind h))
+
+-- a root with two sides, of which the near one has nodes
+pub record High (e : End) (p : Pool) (root : Node) (near far : ℕ) : Type 0 where
   pub nested : Tree
   pub key : Words
   pub word : ℤ
   pub tall : ℕ
   pub inner : Tree
   pub before : Tree
-  pub middle : Tree
-  pub r : Tree
-  pub others : List Held
-  pub holds : Holds p (sides root left right nested (fork key word tall inner before middle) r others)
-
--- the same with heights that fit
-pub record LowLeft (p : Pool) (root : Node) (left right : ℕ) : Type 0 where
-  pub trees : HighLeft p root left right
-  pub few : length trees.others + 8 < 2 ^ 31
-  pub balanced : Balanced trees.middle
-  pub low_before : height trees.before ≤ 99
-  pub low-middle : height trees.middle ≤ 99
-  pub low_right : height trees.r ≤ 100
-
-low-left-of : (p : Pool) (root : Node) (left right : ℕ) (nested l r : Tree) (hs : List Held) → Holds p (sides root left right nested l r hs)
-    → length hs + 8 < 2 ^ 31 → Balanced l → height l ≤ 100 → height r ≤ 100 → 0 < left → LowLeft p root left right
-low-left-of p root left right nested leaf r hs h few b low-l low-r numbered =
-    let z : left ≡ 0 = (held-carries p left leaf _ h).linked in absurd (omega arith)
-low-left-of p root left right nested (fork key word tall inner before middle) r hs h few b low-l low-r numbered =
-    let e : tall ≡ suc (max (height before) (height middle)) = b.0 in
-    record {
-      trees = record {
-        nested = nested;
-        key = key;
-        word = word;
-        tall = tall;
-        inner = inner;
-        before = before;
-        middle = middle;
-        r = r;
-        others = hs;
-        holds = h;
-      };
-      few = few;
-      balanced = b.4;
-      low_before = omega arith;
-      low-middle = omega arith;
-      low_right = low-r;
-    }
-
-pub low_left : {p : Pool} {root : Node} → Balanceable p root → 0 < root.left → LowLeft p root root.left root.right
-low_left {p = p} {root = root} b =
-    low-left-of p root root.left root.right b.nested b.l b.r b.others b.holds b.few b.balanced_left b.low_left b.low_right
-
-module _ {p : Pool} {root : Node} {left right : ℕ} (d : HighLeft p root left right) where
-  abbrev left_tree : Tree
-  left_tree = fork d.key d.word d.tall d.inner d.before d.middle
-
-  abbrev below_right : Tree
-  below_right = node root.key root.word d.nested d.middle d.r
-
-  module _ (q : Pool) (x : Node) (opened : Opens p q left x) where
-    left-apart : TakenApart q x d.key d.word d.tall d.inner d.before d.middle (held root.nested d.nested ∷ held right d.r ∷ d.others)
-    left-apart = opened d.key d.word d.tall d.inner d.before d.middle _ d.holds
-
-    pub left-three : Holds q (three_sides x root x.left x.right right d.inner d.nested d.before d.middle d.r d.others)
-    left-three = left-apart.holds
-
-    pub left-outer : Carries q x.left d.before
-    left-outer = left-carries q x x.left x.right d.inner d.before d.middle _ left-three
-
-    pub left-inner : Carries q x.right d.middle
-    left-inner = right-carries q x x.left x.right d.inner d.before d.middle _ left-three
-
-    pub left_below : Holds q (sides root x.right right d.nested d.middle d.r (held x.left d.before ∷ held x.nested d.inner ∷ d.others))
-    left_below =
-        two-behind-three q (held x.left d.before) (held x.nested d.inner) (held x.right d.middle) (held root.nested d.nested) (held right d.r) d.others
-        left-three
-
-    left-doubled : (q2 : Pool) (n : ℕ) → Doubles q q2 x root x.left x.right right n → height d.before < height d.middle
-        → Holds q2 (held n (rotate_right root.key root.word d.nested left_tree d.r) ∷ d.others)
-    left-doubled q2 n twice higher =
-        subst (λ (t : Tree). Holds q2 (held n t ∷ d.others))
-        (sym (rotate_right-double root.key root.word d.nested d.key d.word d.tall d.inner d.before d.middle d.r higher))
-        (same-root (λ key word. rotate_double key word d.inner root.key root.word d.nested d.before d.middle d.r) q2 x n d.key d.word d.others
-        left-apart.key_is left-apart.word_is (twice d.inner d.nested d.before d.middle d.r d.others left-three))
-
-    module _ (q1 : Pool) (below : ℕ) (first : Puts node q q1 root x.right right below) where
-      pub left-top : Holds q1 (sides x x.left below d.inner d.before below_right d.others)
-      left-top =
-          first-third q1 (held below below_right) (held x.left d.before) (held x.nested d.inner) d.others
-          (first d.nested d.middle d.r _ left_below)
-
-      left-single : (q2 : Pool) (n : ℕ) → Puts node q1 q2 x x.left below n → height d.middle ≤ height d.before
-          → Holds q2 (held n (rotate_right root.key root.word d.nested left_tree d.r) ∷ d.others)
-      left-single q2 n second lower =
-          subst (λ (t : Tree). Holds q2 (held n t ∷ d.others))
-          (sym (rotate_right-single root.key root.word d.nested d.key d.word d.tall d.inner d.before d.middle d.r lower))
-          (same-root (λ key word. node key word d.inner d.before below_right) q2 x n d.key d.word d.others
-          left-apart.key_is left-apart.word_is (second d.inner d.before below_right d.others left-top))
-
-module _ (p q : Pool) (root x : Node) (left right : ℕ) (numbered : 0 < left) (opened : Opens p q left x) (outer inside : ℕ)
-    (outer-is : Measures q x.left outer) (inside_is : Measures q x.right inside) where
-  pub rotated-right-double : (q2 : Pool) (n : ℕ) → outer < inside → Doubles q q2 x root x.left x.right right n → Puts rotate_right p q2 root left right n
-  rotated-right-double q2 n test twice nested leaf r hs h = let z : left ≡ 0 = (held-carries p left leaf _ h).linked in absurd (omega arith)
-  rotated-right-double q2 n test twice nested (fork key word tall inner before middle) r hs h =
-      let d : HighLeft p root left right = record {
-        nested = nested;
-        key = key;
-        word = word;
-        tall = tall;
-        inner = inner;
-        before = before;
-        middle = middle;
-        r = r;
-        others = hs;
-        holds = h;
-      } in
-      left-doubled d q x opened q2 n twice
-      (omega (arith, outer-is before (left-outer d q x opened), inside_is middle (left-inner d q x opened)))
-
-  pub rotated-right-single : (q1 q2 : Pool) (below n : ℕ) → inside ≤ outer → Puts node q q1 root x.right right below
-      → Puts node q1 q2 x x.left below n → Puts rotate_right p q2 root left right n
-  rotated-right-single q1 q2 below n test first second nested leaf r hs h = let z : left ≡ 0 = (held-carries p left leaf _ h).linked in absurd (omega arith)
-  rotated-right-single q1 q2 below n test first second nested (fork key word tall inner before middle) r hs h =
-      let d : HighLeft p root left right = record {
-        nested = nested;
-        key = key;
-        word = word;
-        tall = tall;
-        inner = inner;
-        before = before;
-        middle = middle;
-        r = r;
-        others = hs;
-        holds = h;
-      } in
-      left-single d q x opened q1 below first q2 n second
-      (omega (arith, outer-is before (left-outer d q x opened), inside_is middle (left-inner d q x opened)))
-
--- ---- the right side comes up
-
--- a root with two sides, of which the right one has nodes
-pub record HighRight (p : Pool) (root : Node) (left right : ℕ) : Type 0 where
-  pub nested : Tree
-  pub l : Tree
-  pub key : Words
-  pub word : ℤ
-  pub tall : ℕ
-  pub inner : Tree
-  pub middle : Tree
   pub behind : Tree
+  pub other : Tree
   pub others : List Held
-  pub holds : Holds p (sides root left right nested l (fork key word tall inner middle behind) others)
+  pub holds : Holds p (sides root near far nested (fork key word tall inner before behind) other others)
+
+module _ {e : End} {p : Pool} {root : Node} {near far : ℕ} (d : High e p root near far) where
+  abbrev near_tree : Tree
+  near_tree = fork d.key d.word d.tall d.inner d.before d.behind
+
+  abbrev outer_tree : Tree
+  outer_tree = at_end e d.before d.behind
+
+  abbrev between : Tree
+  between = at_end e d.behind d.before
+
+-- a near side with a number has nodes
+by-near : (e : End) (p : Pool) (root : Node) (near far : ℕ) → 0 < near → (P : Tree → Tree → Tree → List Held → Type 0)
+    → ((d : High e p root near far) → P d.nested (near_tree d) d.other d.others) → (nested s t : Tree) (hs : List Held)
+    → Holds p (sides root near far nested s t hs) → P nested s t hs
+by-near e p root near far numbered P here nested leaf t hs h = let z : near ≡ 0 = (held-carries p near leaf _ h).linked in absurd (omega arith)
+by-near e p root near far numbered P here nested (fork key word tall inner before behind) t hs h =
+    here
+    (record {
+      nested = nested;
+      key = key;
+      word = word;
+      tall = tall;
+      inner = inner;
+      before = before;
+      behind = behind;
+      other = t;
+      others = hs;
+      holds = h;
+    })
+
+-- a root with a near side that has a number
+pub record Faced (e : End) (root : Node) (near far : ℕ) : Type 0 where
+  pub numbered : 0 < near
+  pub near_is : near ≡ at_end e root.left root.right
+  pub far_is : far ≡ at_end e root.right root.left
+
+pub faced : (e : End) {root : Node} {near far : ℕ} → 0 < at_end e root.left root.right → near ≡ at_end e root.left root.right
+    → far ≡ at_end e root.right root.left → Faced e root near far
+faced e numbered on off = record { numbered = omega arith; near_is = on; far_is = off }
+
+-- what holds wherever the near side has nodes holds of the root's own sides
+by-end : (e : End) {p : Pool} {root : Node} {near far : ℕ} → Faced e root near far → (P : Tree → Tree → Tree → List Held → Type 0)
+    → ((d : High e p root near far) → P d.nested (at_end e (near_tree d) d.other) (at_end e d.other (near_tree d)) d.others) → (nested l r : Tree)
+    (hs : List Held) → Holds p (sides root root.left root.right nested l r hs) → P nested l r hs
+by-end First {p = p} {root = root} {near = near} {far = far} f P here nested l r hs h =
+    by-near First p root near far f.numbered P here nested l r hs (rw (f.near_is, f.far_is) h)
+by-end Last {p = p} {root = root} {near = near} {far = far} f P here nested l r hs h =
+    by-near Last p root near far f.numbered (λ nested s t hs. P nested t s hs) here nested r l hs
+    (rw (f.near_is, f.far_is) (reversed p (held root.left l) (held root.nested nested) (held root.right r) hs h))
 
 -- the same with heights that fit
-pub record LowRight (p : Pool) (root : Node) (left right : ℕ) : Type 0 where
-  pub trees : HighRight p root left right
+pub record Low (e : End) (p : Pool) (root : Node) (near far : ℕ) : Type 0 where
+  pub trees : High e p root near far
   pub few : length trees.others + 8 < 2 ^ 31
-  pub balanced : Balanced trees.middle
-  pub low_left : height trees.l ≤ 100
-  pub low-middle : height trees.middle ≤ 99
-  pub low_behind : height trees.behind ≤ 99
+  pub balanced : Balanced (between trees)
+  pub low_outer : height (outer_tree trees) ≤ 99
+  pub low_between : height (between trees) ≤ 99
+  pub low_far : height trees.other ≤ 100
 
-low-right-of : (p : Pool) (root : Node) (left right : ℕ) (nested l r : Tree) (hs : List Held) → Holds p (sides root left right nested l r hs)
-    → length hs + 8 < 2 ^ 31 → Balanced r → height l ≤ 100 → height r ≤ 100 → 0 < right → LowRight p root left right
-low-right-of p root left right nested l leaf hs h few b low-l low-r numbered =
-    let z : right ≡ 0 = (right-carries p root left right nested l leaf hs h).linked in absurd (omega arith)
-low-right-of p root left right nested l (fork key word tall inner middle behind) hs h few b low-l low-r numbered =
-    let e : tall ≡ suc (max (height middle) (height behind)) = b.0 in
+low-of : {e : End} {p : Pool} {root : Node} {near far : ℕ} (d : High e p root near far) → length d.others + 8 < 2 ^ 31 → Balanced (near_tree d)
+    → height (near_tree d) ≤ 100 → height d.other ≤ 100 → Low e p root near far
+low-of {e = e} d few b low-near low_far =
+    let high : d.tall ≡ suc (max (height d.before) (height d.behind)) = b.0 in
+    let low-before : height d.before ≤ 99 = omega arith in
+    let low-behind : height d.behind ≤ 99 = omega arith in
     record {
-      trees = record {
-        nested = nested;
-        l = l;
-        key = key;
-        word = word;
-        tall = tall;
-        inner = inner;
-        middle = middle;
-        behind = behind;
-        others = hs;
-        holds = h;
-      };
+      trees = d;
       few = few;
-      balanced = b.3;
-      low_left = low-l;
-      low-middle = omega arith;
-      low_behind = omega arith;
+      balanced = both e Balanced d.behind d.before b.4 b.3;
+      low_outer = both e (λ (t : Tree). height t ≤ 99) d.before d.behind low-before low-behind;
+      low_between = both e (λ (t : Tree). height t ≤ 99) d.behind d.before low-behind low-before;
+      low_far = low_far;
     }
 
-pub low_right : {p : Pool} {root : Node} → Balanceable p root → 0 < root.right → LowRight p root root.left root.right
-low_right {p = p} {root = root} b =
-    low-right-of p root root.left root.right b.nested b.l b.r b.others b.holds b.few b.balanced_right b.low_left b.low_right
+pub low : (e : End) {p : Pool} {root : Node} {near far : ℕ} → Faced e root near far → Balanceable p root → Low e p root near far
+low e {p = p} {root = root} {near = near} {far = far} f b =
+    by-near e p root near far f.numbered
+    (λ nested s t hs. length hs + 8 < 2 ^ 31 → Balanced s → height s ≤ 100 → height t ≤ 100 → Low e p root near far)
+    low-of b.nested (at_end e b.l b.r) (at_end e b.r b.l) b.others
+    (rw (f.near_is, f.far_is) (turned e p root root.left root.right b.nested b.l b.r b.others b.holds)) b.few
+    (both e Balanced b.l b.r b.balanced_left b.balanced_right)
+    (both e (λ (t : Tree). height t ≤ 100) b.l b.r b.low_left b.low_right)
+    (both e (λ (t : Tree). height t ≤ 100) b.r b.l b.low_right b.low_left)
 
-module _ {p : Pool} {root : Node} {left right : ℕ} (d : HighRight p root left right) where
-  abbrev right_tree : Tree
-  right_tree = fork d.key d.word d.tall d.inner d.middle d.behind
+-- the root of the near side, taken apart: x, over an outer side and a middle one
+pub record Parted (e : End) (p q : Pool) (root x : Node) (near far outer middle : ℕ) : Type 0 where
+  pub ready : Balanceable p root
+  pub faced : Faced e root near far
+  pub node_is : x ≡ node_at (memory_of p) near
+  pub opened : Opens p q near x
+  pub fewer : used_of q ≤ used_of p
+  pub last : x.count ≡ 1 → used_of q + 1 ≡ used_of p
+  pub outer_is : outer ≡ at_end e x.left x.right
+  pub middle_is : middle ≡ at_end e x.right x.left
 
-  abbrev below_left : Tree
-  below_left = node root.key root.word d.nested d.l d.middle
+pub parted : (e : End) {p q : Pool} {root x : Node} {near far outer middle : ℕ} → Balanceable p root → Faced e root near far
+    → x ≡ node_at (memory_of p) near → Opens p q near x → (1 < x.count → used_of q ≡ used_of p) → (x.count ≡ 1 → used_of q + 1 ≡ used_of p)
+    → outer ≡ at_end e x.left x.right → middle ≡ at_end e x.right x.left → Parted e p q root x near far outer middle
+parted e {p = p} {q = q} {x = x} {near = near} b f node opened shared last on off =
+    let d = (low e f b).trees in
+    record {
+      ready = b;
+      faced = f;
+      node_is = node;
+      opened = opened;
+      fewer = apart-fewer p x near (used_of p) (used_of q) (near_tree d) _ d.holds f.numbered node shared last;
+      last = last;
+      outer_is = on;
+      middle_is = off;
+    }
 
-  pub right-first : Holds p (held right right_tree ∷ held left d.l ∷ held root.nested d.nested ∷ d.others)
-  right-first = third-first p (held left d.l) (held root.nested d.nested) (held right right_tree) d.others d.holds
+module _ {e : End} {p q : Pool} {root x : Node} {near far outer middle : ℕ} (s : Parted e p q root x near far outer middle) where
+  module _ (d : High e p root near far) where
+    abbrev below_tree : Tree
+    below_tree = node root.key root.word d.nested (at_end e (between d) d.other) (at_end e d.other (between d))
 
-  module _ (q : Pool) (x : Node) (opened : Opens p q right x) where
-    right-apart : TakenApart q x d.key d.word d.tall d.inner d.middle d.behind (held left d.l ∷ held root.nested d.nested ∷ d.others)
-    right-apart = opened d.key d.word d.tall d.inner d.middle d.behind _ right-first
+    apart : TakenApart q x d.key d.word d.tall d.inner d.before d.behind (held root.nested d.nested ∷ held far d.other ∷ d.others)
+    apart = s.opened d.key d.word d.tall d.inner d.before d.behind _ d.holds
 
-    pub right-three : Holds q (three_sides root x left x.left x.right d.nested d.inner d.l d.middle d.behind d.others)
-    right-three =
-        three-behind-two q (held x.left d.middle) (held x.nested d.inner) (held x.right d.behind) (held left d.l) (held root.nested d.nested) d.others
-        right-apart.holds
+    three-held : Holds q (three_sides x root outer middle far d.inner d.nested (outer_tree d) (between d) d.other d.others)
+    three-held = rw (s.outer_is, s.middle_is) (turned e q x x.left x.right d.inner d.before d.behind _ apart.holds)
 
-    pub right-inner : Carries q x.left d.middle
-    right-inner = left-carries q x x.left x.right d.inner d.middle d.behind _ right-apart.holds
+    outer-carries : Carries q outer (outer_tree d)
+    outer-carries = left-carries q x outer middle d.inner (outer_tree d) (between d) _ three-held
 
-    pub right-outer : Carries q x.right d.behind
-    right-outer = right-carries q x x.left x.right d.inner d.middle d.behind _ right-apart.holds
+    middle-carries : Carries q middle (between d)
+    middle-carries = right-carries q x outer middle d.inner (outer_tree d) (between d) _ three-held
 
-    pub right-below : Holds q (sides root left x.left d.nested d.l d.middle (held x.nested d.inner ∷ held x.right d.behind ∷ d.others))
-    right-below = right-three
+    below-sides : Holds q (sides root middle far d.nested (between d) d.other (held outer (outer_tree d) ∷ held x.nested d.inner ∷ d.others))
+    below-sides =
+        two-behind-three q (held outer (outer_tree d)) (held x.nested d.inner) (held middle (between d)) (held root.nested d.nested) (held far d.other)
+        d.others three-held
 
-    right-doubled : (q2 : Pool) (n : ℕ) → Doubles q q2 root x left x.left x.right n → height d.behind < height d.middle
-        → Holds q2 (held n (rotate_left root.key root.word d.nested d.l right_tree) ∷ d.others)
-    right-doubled q2 n twice higher =
-        subst (λ (t : Tree). Holds q2 (held n t ∷ d.others))
-        (sym (rotate_left-double root.key root.word d.nested d.key d.word d.tall d.inner d.l d.middle d.behind higher))
-        (same-root (λ key word. rotate_double root.key root.word d.nested key word d.inner d.l d.middle d.behind) q2 x n d.key d.word d.others
-        right-apart.key_is right-apart.word_is (twice d.nested d.inner d.l d.middle d.behind d.others right-three))
+    module _ (lower upper : Node) (low_is : lower ≡ at_end e x root) (high_is : upper ≡ at_end e root x) where
+      three-ready : Holds q (three_sides lower upper lower.left middle upper.right (at_end e d.inner d.nested) (at_end e d.nested d.inner)
+          (at_end e (outer_tree d) d.other) (between d) (at_end e d.other (outer_tree d)) d.others)
+      three-ready =
+          three-turned e q x root lower upper outer middle far d.inner d.nested (outer_tree d) (between d) d.other d.others s.outer_is s.faced.far_is
+          low_is high_is three-held
 
-    module _ (q1 : Pool) (below : ℕ) (first : Puts node q q1 root left x.left below) where
-      pub right-top : Holds q1 (sides x below x.right d.inner below_left d.behind d.others)
-      right-top = first d.nested d.l d.middle _ right-below
-
-      right-single : (q2 : Pool) (n : ℕ) → Puts node q1 q2 x below x.right n → height d.middle ≤ height d.behind
-          → Holds q2 (held n (rotate_left root.key root.word d.nested d.l right_tree) ∷ d.others)
-      right-single q2 n second lower =
+      doubled : (q2 : Pool) (n : ℕ) → Doubles q q2 lower upper lower.left middle upper.right n → height (outer_tree d) < height (between d)
+          → Holds q2 (held n (rotated e root.key root.word d.nested (near_tree d) d.other) ∷ d.others)
+      doubled q2 n twice higher =
           subst (λ (t : Tree). Holds q2 (held n t ∷ d.others))
-          (sym (rotate_left-single root.key root.word d.nested d.key d.word d.tall d.inner d.l d.middle d.behind lower))
-          (same-root (λ key word. node key word d.inner below_left d.behind) q2 x n d.key d.word d.others
-          right-apart.key_is right-apart.word_is (second d.inner below_left d.behind d.others right-top))
+          (double-is e x root lower upper d.key d.word d.tall d.inner d.before d.behind d.nested d.other low_is high_is apart.key_is apart.word_is higher)
+          (twice _ _ _ _ _ d.others three-ready)
 
-module _ (p q : Pool) (root x : Node) (left right : ℕ) (numbered : 0 < right) (opened : Opens p q right x) (outer inside : ℕ)
-    (outer-is : Measures q x.right outer) (inside_is : Measures q x.left inside) where
-  pub rotated-left-double : (q2 : Pool) (n : ℕ) → outer < inside → Doubles q q2 root x left x.left x.right n → Puts rotate_left p q2 root left right n
-  rotated-left-double q2 n test twice nested l leaf hs h =
-      let z : right ≡ 0 = (right-carries p root left right nested l leaf hs h).linked in absurd (omega arith)
-  rotated-left-double q2 n test twice nested l (fork key word tall inner middle behind) hs h =
-      let d : HighRight p root left right = record {
-        nested = nested;
-        l = l;
-        key = key;
-        word = word;
-        tall = tall;
-        inner = inner;
-        middle = middle;
-        behind = behind;
-        others = hs;
-        holds = h;
-      } in
-      right-doubled d q x opened q2 n twice
-      (omega (arith, outer-is behind (right-outer d q x opened), inside_is middle (right-inner d q x opened)))
+    module _ (q1 : Pool) (below : ℕ) (first : Joins e q q1 root middle far below) where
+      top-sides : Holds q1 (sides x outer below d.inner (outer_tree d) below_tree d.others)
+      top-sides =
+          first-third q1 (held below below_tree) (held outer (outer_tree d)) (held x.nested d.inner) d.others
+          (first d.nested (between d) d.other _ below-sides)
 
-  pub rotated-left-single : (q1 q2 : Pool) (below n : ℕ) → inside ≤ outer → Puts node q q1 root left x.left below
-      → Puts node q1 q2 x below x.right n → Puts rotate_left p q2 root left right n
-  rotated-left-single q1 q2 below n test first second nested l leaf hs h =
-      let z : right ≡ 0 = (right-carries p root left right nested l leaf hs h).linked in absurd (omega arith)
-  rotated-left-single q1 q2 below n test first second nested l (fork key word tall inner middle behind) hs h =
-      let d : HighRight p root left right = record {
-        nested = nested;
-        l = l;
-        key = key;
-        word = word;
-        tall = tall;
-        inner = inner;
-        middle = middle;
-        behind = behind;
-        others = hs;
-        holds = h;
-      } in
-      right-single d q x opened q1 below first q2 n second
-      (omega (arith, outer-is behind (right-outer d q x opened), inside_is middle (right-inner d q x opened)))
+      single : (q2 : Pool) (n : ℕ) → Joins e q1 q2 x outer below n → height (between d) ≤ height (outer_tree d)
+          → Holds q2 (held n (rotated e root.key root.word d.nested (near_tree d) d.other) ∷ d.others)
+      single q2 n second lower =
+          subst (λ (t : Tree). Holds q2 (held n t ∷ d.others))
+          (single-is e x root d.key d.word d.tall d.inner d.before d.behind d.nested d.other below_tree refl apart.key_is apart.word_is lower)
+          (second d.inner (outer_tree d) below_tree d.others top-sides)
 
-  -- a right side that leans to the right is not rotated twice
-  pub leans-single : (nested l r : Tree) (hs : List Held) → Holds p (sides root left right nested l r hs) → LeansRight r → inside ≤ outer
-  leans-single nested l leaf hs h leans =
-      let z : right ≡ 0 = (right-carries p root left right nested l leaf hs h).linked in absurd (omega arith)
-  leans-single nested l (fork key word tall inner middle behind) hs h leans =
-      let d : HighRight p root left right = record {
-        nested = nested;
-        l = l;
-        key = key;
-        word = word;
-        tall = tall;
-        inner = inner;
-        middle = middle;
-        behind = behind;
-        others = hs;
-        holds = h;
-      } in
-      omega (arith, leans, outer-is behind (right-outer d q x opened), inside_is middle (right-inner d q x opened))
+  -- what the calls need
+  pub outer-carried : (t : Tree) × Carries q outer t
+  outer-carried = (_, outer-carries (low e s.faced s.ready).trees)
+
+  pub middle-carried : (t : Tree) × Carries q middle t
+  middle-carried = (_, middle-carries (low e s.faced s.ready).trees)
+
+  pub below-ready : (y : Node) → y ≡ over root (at_end e middle far) (at_end e far middle) → Buildable q y
+  below-ready y is =
+      let l = low e s.faced s.ready in
+      buildable e q root y middle far is _ _ _ _ (below-sides l.trees) (omega (arith, l.low_between)) (omega (arith, l.low_far))
+
+  pub top-ready : (q1 : Pool) (below : ℕ) → Joins e q q1 root middle far below → (y : Node)
+      → y ≡ over x (at_end e outer below) (at_end e below outer) → Buildable q1 y
+  top-ready q1 below first y is =
+      let l = low e s.faced s.ready in
+      let d = l.trees in
+      let low-left : height (at_end e (between d) d.other) ≤ 100 = both e (λ (t : Tree). height t ≤ 100) (between d) d.other (omega (arith, l.low_between)) l.low_far in
+      let low-right : height (at_end e d.other (between d)) ≤ 100 = both e (λ (t : Tree). height t ≤ 100) d.other (between d) l.low_far (omega (arith, l.low_between)) in
+      buildable e q1 x y outer below is _ _ _ _ (top-sides l.trees q1 below first) (omega (arith, l.low_outer)) (omega (arith, low-left, low-right))
+
+  -- the two heights that are read
+  module _ (tall inside : ℕ) (tall_is : Measures q outer tall) (inside_is : Measures q middle inside) where
+    module _ (lower upper : Node) (low_is : lower ≡ at_end e x root) (high_is : upper ≡ at_end e root x) (test : tall < inside) where
+      pub double-ready : Doubled q lower upper middle
+      double-ready =
+          let l = low e s.faced s.ready in
+          let d = l.trees in
+          let above = inside_is _ (middle-carries d) in
+          doubled-ready q lower upper middle _ _ _ (between d) _ d.others (three-ready d lower upper low_is high_is) (omega (arith, l.few))
+          (both e (λ (t : Tree). height t ≤ 100) (outer_tree d) d.other (omega (arith, l.low_outer)) l.low_far) l.balanced (omega (arith, l.low_between))
+          (both e (λ (t : Tree). height t ≤ 100) d.other (outer_tree d) l.low_far (omega (arith, l.low_outer))) (omega arith)
+
+      pub rotated-twice : (q2 : Pool) (n : ℕ) → Doubles q q2 lower upper lower.left middle upper.right n
+          → Puts (at_end e rotate_right rotate_left) p q2 root root.left root.right n
+      rotated-twice q2 n twice =
+          by-end e s.faced (λ nested l r hs. Holds q2 (held n (at_end e rotate_right rotate_left root.key root.word nested l r) ∷ hs))
+          (λ d. doubled d lower upper low_is high_is q2 n twice (omega (arith, tall_is _ (outer-carries d), inside_is _ (middle-carries d))))
+
+    pub rotated-once : (q1 q2 : Pool) (below n : ℕ) → inside ≤ tall → Joins e q q1 root middle far below → Joins e q1 q2 x outer below n
+        → Puts (at_end e rotate_right rotate_left) p q2 root root.left root.right n
+    rotated-once q1 q2 below n test first second =
+        by-end e s.faced (λ nested l r hs. Holds q2 (held n (at_end e rotate_right rotate_left root.key root.word nested l r) ∷ hs))
+        (λ d. single d q1 below first q2 n second (omega (arith, tall_is _ (outer-carries d), inside_is _ (middle-carries d))))
+
+    -- a right side that leans to the right is not rotated twice
+    pub leans-single : e ≡ Last → (nested l r : Tree) (hs : List Held) → Holds p (sides root root.left root.right nested l r hs) → LeansRight r
+        → inside ≤ tall
+    leans-single is =
+        by-end e s.faced (λ nested l r hs. LeansRight r → inside ≤ tall)
+        (λ d leans.
+        let lower : height (between d) ≤ height (outer_tree d) =
+        subst (λ (o : End). LeansRight (at_end o d.other (near_tree d)) → height (at_end o d.behind d.before) ≤ height (at_end o d.before d.behind))
+        (sym is) (λ h. h) leans in
+        omega (arith, tall_is _ (outer-carries d), inside_is _ (middle-carries d)))
+
+  -- the end is the last, and the right side has no other owner
+  pub last-less : e ≡ Last → (node_at (memory_of p) root.right).count ≡ 1 → used_of q + 1 ≡ used_of p
+  last-less is one =
+      let right : near ≡ root.right = subst (λ (o : End). near ≡ at_end o root.left root.right) is s.faced.near_is in
+      s.last (ap (λ (y : Node). y.count) s.node_is ∙ ap (λ (n : ℕ). (node_at (memory_of p) n).count) right ∙ one)

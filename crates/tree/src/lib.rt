@@ -2,6 +2,7 @@
 
 #![tactic(auto)]
 
+mod end;
 mod inserting;
 mod key;
 mod laws;

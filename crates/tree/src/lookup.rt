@@ -11,6 +11,7 @@ ghost use Rattle.tree.specs.Lookup.{after, at_most, find, first, first_after, fi
 ghost use Rattle.tree.specs.Readable.{Readable};
 ghost use Rattle.tree.specs.Shape.{Ascending, items};
 
+use crate::end::End;
 use crate::key::Key;
 use crate::place::{compare_at, is_before, side};
 use crate::value::Value;
@@ -98,25 +99,6 @@ pub fn after<K: Key, V: Value>(pool: &Pool<'_>, root: u16, key: K) -> Option<(K,
         or_item(after(pool, side(node, Ordering::Less), key), node)
     } else {
         after(pool, side(node, Ordering::Greater), key)
-    }
-}
-
-/// An end of the keys.
-#[derive(Clone, Copy)]
-enum End {
-    First,
-    Last,
-}
-
-impl End {
-    /// The side of a node on this end.
-    fn side(self, node: Node) -> u16
-        ensures { result ≡ at_end self node.left node.right }
-    {
-        match self {
-            End::First => node.left,
-            End::Last => node.right,
-        }
     }
 }
 

@@ -6,11 +6,13 @@ ghost use Rattle.pool.specs.Node.{node_at};
 ghost use Rattle.pool.specs.Sound.{memory_of, used_of};
 ghost use Rattle.pool.specs.Tree.{Tree};
 ghost use Rattle.tree.specs.Append.{LeansRight};
+ghost use Rattle.tree.specs.Ends.{at_end};
 ghost use Rattle.tree.specs.Grown.{Grown};
 ghost use Rattle.tree.specs.Ready.{Balanceable, Buildable, Doubled, sides, three_sides};
 ghost use Rattle.tree.specs.Rebuild.{balance as balanced, node, rotate_double, rotate_left, rotate_right};
 ghost use Rattle.tree.specs.Shape.{height};
 
+use crate::end::End;
 use pool::{Node, Pool};
 
 /// The height that the root of a tree stores; no node has height 0.
@@ -85,54 +87,24 @@ fn is_double(outer: u8, inner: u8) -> bool
     outer < inner
 }
 
-/// The root of the left side comes up, or the root of that side's right side where that is the higher one.
-fn rotate_right(pool: &mut Pool<'_>, root: Node) -> u16
+/// The root of the side on this end comes up, or the root of that side's inner side where that is the higher one.
+fn rotate(pool: &mut Pool<'_>, root: Node, end: End) -> u16
     requires ready { Balanceable pool.old root }
-    requires numbered { 0 < root.left }
+    requires numbered { 0 < at_end end root.left root.right }
     requires room { used_of pool.old + 3 ≤ length (memory_of pool.old) }
-    ensures owned { (nested l r : Tree) (hs : List Held) → Holds pool.old (sides root nested l r hs) → Holds pool.new (held result (rotate_right root.key root.word nested l r) ∷ hs) }
+    ensures owned { (nested l r : Tree) (hs : List Held) → Holds pool.old (sides root nested l r hs) → Holds pool.new (held result (at_end end rotate_right rotate_left root.key root.word nested l r) ∷ hs) }
     ensures grown { Grown pool.old pool.new 3 result }
+    ensures single { end ≡ End.Last → (nested l r : Tree) (hs : List Held) → Holds pool.old (sides root nested l r hs) → LeansRight r → (node_at (memory_of pool.old) root.right).count ≡ 1 → used_of pool.new ≡ used_of pool.old + 1 }
 {
-    let lower = pool.take_apart(root.left);
-    let outer = stored_height(pool, lower.left);
-    let inner = stored_height(pool, lower.right);
-    if is_double(outer, inner) {
-        rotate_double(pool, lower, lower.right, root)
+    let (near, far) = end.turned(root.left, root.right);
+    let child = pool.take_apart(near);
+    let (outer, inner) = end.turned(child.left, child.right);
+    if is_double(stored_height(pool, outer), stored_height(pool, inner)) {
+        let (lower, upper) = end.turned(child, root);
+        rotate_double(pool, lower, inner, upper)
     } else {
-        let right = build(
-            pool,
-            Node {
-                left: lower.right,
-                ..root
-            },
-        );
-        build(pool, Node { right, ..lower })
-    }
-}
-
-/// The root of the right side comes up, or the root of that side's left side where that is the higher one.
-fn rotate_left(pool: &mut Pool<'_>, root: Node) -> u16
-    requires ready { Balanceable pool.old root }
-    requires numbered { 0 < root.right }
-    requires room { used_of pool.old + 3 ≤ length (memory_of pool.old) }
-    ensures owned { (nested l r : Tree) (hs : List Held) → Holds pool.old (sides root nested l r hs) → Holds pool.new (held result (rotate_left root.key root.word nested l r) ∷ hs) }
-    ensures grown { Grown pool.old pool.new 3 result }
-    ensures single { (nested l r : Tree) (hs : List Held) → Holds pool.old (sides root nested l r hs) → LeansRight r → (node_at (memory_of pool.old) root.right).count ≡ 1 → used_of pool.new ≡ used_of pool.old + 1 }
-{
-    let upper = pool.take_apart(root.right);
-    let outer = stored_height(pool, upper.right);
-    let inner = stored_height(pool, upper.left);
-    if is_double(outer, inner) {
-        rotate_double(pool, root, upper.left, upper)
-    } else {
-        let left = build(
-            pool,
-            Node {
-                right: upper.left,
-                ..root
-            },
-        );
-        build(pool, Node { left, ..upper })
+        let below = build(pool, end.over(root, inner, far));
+        build(pool, end.over(child, outer, below))
     }
 }
 
@@ -156,9 +128,9 @@ pub(crate) fn balance(pool: &mut Pool<'_>, root: Node) -> u16
     let before = stored_height(pool, root.left);
     let behind = stored_height(pool, root.right);
     if is_too_high(before, behind) {
-        rotate_right(pool, root)
+        rotate(pool, root, End::First)
     } else if is_too_high(behind, before) {
-        rotate_left(pool, root)
+        rotate(pool, root, End::Last)
     } else {
         build(pool, root)
     }

@@ -1,4 +1,4 @@
-use Rattle.std.proofs.Common.{◌+◌, ◌<◌, ◌≤◌, sym, ◌∙◌, arith}
+use Rattle.std.proofs.Common.{◌+◌, ◌<◌, ◌≤◌, sym, refl, ◌∙◌, arith}
 use Rattle.std.proofs.lemmas.Bool.{ltb-false, ltb-true}
 use Rattle.tree.proofs.Building.{left-carries, right-carries}
 use Rattle.tree.proofs.Balancing.{balanced_left, balanced-level, balanced_right}
@@ -18,8 +18,8 @@ is_too_high-requires c =
     let b = c.requires.ready in
     omega (arith, b.low_right, c.stored_height-behind.ensures b.r (right-carries _ c.args.root c.args.root.left _ b.nested b.l b.r b.others b.holds))
 
-pub rotate_right-requires : goal.rotate_right-requires
-rotate_right-requires c =
+pub rotate-requires : goal.rotate-requires
+rotate-requires c =
     let test : c.stored_height-behind.result + 1 < c.stored_height-before.result = omega (arith, ltb-true _ _ (sym c.is_too_high.ensures ∙ c.if-is_too_high.true)) in
     let b = c.requires.ready in
     let carries = left-carries _ c.args.root _ c.args.root.right b.nested b.l b.r b.others b.holds in
@@ -31,8 +31,8 @@ is_too_high-requires-else-is_too_high c =
     let b = c.requires.ready in
     omega (arith, b.low_left, c.stored_height-before.ensures b.l (left-carries _ c.args.root _ c.args.root.right b.nested b.l b.r b.others b.holds))
 
-pub rotate_left-requires : goal.rotate_left-requires
-rotate_left-requires c =
+pub rotate-requires-then-is_too_high-2 : goal.rotate-requires-then-is_too_high-2
+rotate-requires-then-is_too_high-2 c =
     let test : c.stored_height-before.result + 1 < c.stored_height-behind.result = omega (arith, ltb-true _ _ (sym c.is_too_high-else-is_too_high.ensures ∙ c.if-is_too_high-2.true)) in
     let b = c.requires.ready in
     let carries = right-carries _ c.args.root c.args.root.left _ b.nested b.l b.r b.others b.holds in
@@ -61,8 +61,8 @@ returns-then-is_too_high c =
     let m = c.stored_height-before.ensures in
     let n = c.stored_height-behind.ensures in
     record {
-      owned = balanced_left _ _ c.args.root _ _ _ _ m n test _ c.rotate_right.ensures.owned;
-      grown = c.rotate_right.ensures.grown;
+      owned = balanced_left _ _ c.args.root _ _ _ _ m n test _ c.rotate.ensures.owned;
+      grown = c.rotate.ensures.grown;
       level = λ nested l r hs h low high.
           let x = m l (left-carries _ c.args.root _ c.args.root.right nested l r hs h) in
           let y = n r (right-carries _ c.args.root c.args.root.left _ nested l r hs h) in
@@ -80,13 +80,13 @@ returns-then-is_too_high-2 c =
     let m = c.stored_height-before.ensures in
     let n = c.stored_height-behind.ensures in
     record {
-      owned = balanced_right _ _ c.args.root _ _ _ _ m n low test _ c.rotate_left.ensures.owned;
-      grown = c.rotate_left.ensures.grown;
+      owned = balanced_right _ _ c.args.root _ _ _ _ m n low test _ c.rotate-then-is_too_high-2.ensures.owned;
+      grown = c.rotate-then-is_too_high-2.ensures.grown;
       level = λ nested l r hs h by_left by_right.
           let x = m l (left-carries _ c.args.root _ c.args.root.right nested l r hs h) in
           let y = n r (right-carries _ c.args.root c.args.root.left _ nested l r hs h) in
           absurd (omega (arith, test));
-      single = λ nested l r hs h high. c.rotate_left.ensures.single nested l r hs h;
+      single = λ nested l r hs h high. c.rotate-then-is_too_high-2.ensures.single refl nested l r hs h;
     }
 
 pub returns-else-is_too_high-2 : goal.returns-else-is_too_high-2
