@@ -1,7 +1,6 @@
 pub mod Answer
 pub mod Append
 pub mod Ends
-pub mod Grown
 pub mod Heights
 pub mod Insert
 pub mod Insertable
@@ -9,6 +8,7 @@ pub mod Kind
 pub mod Laws
 pub mod Listed
 pub mod Lookup
+pub mod Made
 pub mod Range
 pub mod Readable
 pub mod Ready

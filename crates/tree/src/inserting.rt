@@ -6,9 +6,9 @@ ghost use Rattle.pool.specs.Node.{node_at};
 ghost use Rattle.pool.specs.Sound.{memory_of, used_of};
 ghost use Rattle.pool.specs.Tree.{Tree, fork};
 ghost use Rattle.tree.specs.Append.{Behind};
-ghost use Rattle.tree.specs.Grown.{Grown};
 ghost use Rattle.tree.specs.Insert.{Present, compared, insert as inserted};
 ghost use Rattle.tree.specs.Insertable.{Insertable, entry_of, replacing, revalued_of};
+ghost use Rattle.tree.specs.Made.{Made};
 ghost use Rattle.tree.specs.Shape.{height};
 
 use crate::key::Key;
@@ -50,7 +50,7 @@ fn replace<V: Value>(pool: &mut Pool<'_>, node: Node, value: V) -> u16
     requires held { (old : Tree) × (nested : Tree) × (left : Tree) × (right : Tree) × (hs : List Held) × Holds pool.old (replacing node (V.Value.nested value) old nested left right hs) }
     requires room { used_of pool.old < length (memory_of pool.old) }
     ensures owned { (old nested left right : Tree) (hs : List Held) → Holds pool.old (replacing node (V.Value.nested value) old nested left right hs) → Holds pool.new (held result (fork node.key (V.Value.word value) node.height nested left right) ∷ hs) }
-    ensures grown { Grown pool.old pool.new 1 result }
+    ensures made { Made pool.old pool.new 1 result }
 {
     pool.release(node.nested);
     pool.take(revalued(node, value))

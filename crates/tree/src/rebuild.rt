@@ -7,7 +7,7 @@ ghost use Rattle.pool.specs.Sound.{memory_of, used_of};
 ghost use Rattle.pool.specs.Tree.{Tree};
 ghost use Rattle.tree.specs.Append.{LeansRight};
 ghost use Rattle.tree.specs.Ends.{at_end};
-ghost use Rattle.tree.specs.Grown.{Grown};
+ghost use Rattle.tree.specs.Made.{Made};
 ghost use Rattle.tree.specs.Ready.{Balanceable, Buildable, Doubled, sides, three_sides};
 ghost use Rattle.tree.specs.Rebuild.{balance as balanced, node, rotate_double, rotate_left, rotate_right};
 ghost use Rattle.tree.specs.Shape.{height};
@@ -53,7 +53,7 @@ fn rotate_double(pool: &mut Pool<'_>, lower: Node, middle: u16, upper: Node) -> 
     requires ready { Doubled pool.old lower upper middle }
     requires room { used_of pool.old + 3 ≤ length (memory_of pool.old) }
     ensures owned { (inner nested l m r : Tree) (hs : List Held) → Holds pool.old (three_sides lower upper middle inner nested l m r hs) → Holds pool.new (held result (rotate_double lower.key lower.word inner upper.key upper.word nested l m r) ∷ hs) }
-    ensures grown { Grown pool.old pool.new 3 result }
+    ensures made { Made pool.old pool.new 3 result }
 {
     let root = pool.take_apart(middle);
     let left = build(
@@ -93,7 +93,7 @@ fn rotate(pool: &mut Pool<'_>, root: Node, end: End) -> u16
     requires numbered { 0 < at_end end root.left root.right }
     requires room { used_of pool.old + 3 ≤ length (memory_of pool.old) }
     ensures owned { (nested l r : Tree) (hs : List Held) → Holds pool.old (sides root nested l r hs) → Holds pool.new (held result (at_end end rotate_right rotate_left root.key root.word nested l r) ∷ hs) }
-    ensures grown { Grown pool.old pool.new 3 result }
+    ensures made { Made pool.old pool.new 3 result }
     ensures single { end ≡ End.Last → (nested l r : Tree) (hs : List Held) → Holds pool.old (sides root nested l r hs) → LeansRight r → (node_at (memory_of pool.old) root.right).count ≡ 1 → used_of pool.new ≡ used_of pool.old + 1 }
 {
     let (near, far) = end.turned(root.left, root.right);
@@ -121,7 +121,7 @@ pub(crate) fn balance(pool: &mut Pool<'_>, root: Node) -> u16
     requires ready { Balanceable pool.old root }
     requires room { used_of pool.old + 3 ≤ length (memory_of pool.old) }
     ensures owned { (nested l r : Tree) (hs : List Held) → Holds pool.old (sides root nested l r hs) → Holds pool.new (held result (balanced root.key root.word nested l r) ∷ hs) }
-    ensures grown { Grown pool.old pool.new 3 result }
+    ensures made { Made pool.old pool.new 3 result }
     ensures level { (nested l r : Tree) (hs : List Held) → Holds pool.old (sides root nested l r hs) → height l ≤ height r + 1 → height r ≤ height l + 1 → used_of pool.new ≡ used_of pool.old + 1 }
     ensures single { (nested l r : Tree) (hs : List Held) → Holds pool.old (sides root nested l r hs) → height l + 1 < height r → LeansRight r → (node_at (memory_of pool.old) root.right).count ≡ 1 → used_of pool.new ≡ used_of pool.old + 1 }
 {

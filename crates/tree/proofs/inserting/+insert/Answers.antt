@@ -98,16 +98,16 @@ returns-in-Less g t c =
     let less = sym c.in-Less.ensures in
     record {
       owned = inserted-less _ _ _ _ _ c.take_apart-node.result _ _ n e.owned _ _ _ _ less c.insert-left.ensures.owned (puts balance _ _ c.take_apart-node.result _ _ _ _ c.balance.ensures.owned (search rules));
-      used = λ u carries. omega (arith, standing-height (standing d.trees) u carries, d.balanced.0, fewer, used, c.balance.ensures.grown.used);
+      used = λ u carries. omega (arith, standing-height (standing d.trees) u carries, d.balanced.0, fewer, used, c.balance.ensures.made.used);
       replaced = λ u carries there.
           let place = compared g.K.Key.key g.K.Ord.cmp c.args.key in
           let side = c.insert-left.ensures.replaced _ (stood-left (standing d.trees) _ _ e.owned) (present-side d.trees _ _ e.owned u carries place Less less there) in
-          omega (arith, standing-height (standing d.trees) u carries, d.balanced.0, fewer, side, c.balance.ensures.grown.used);
+          omega (arith, standing-height (standing d.trees) u carries, d.balanced.0, fewer, side, c.balance.ensures.made.used);
       appended = λ u carries behind.
           let place = compared g.K.Key.key g.K.Ord.cmp c.args.key in
           absurd (not_behind d.trees _ _ e.owned place less (whole-behind d.trees u carries place behind).0);
-      fresh = c.balance.ensures.grown.fresh;
-      size = c.balance.ensures.grown.size ∙ c.insert-left.ensures.size ∙ e.size;
+      fresh = c.balance.ensures.made.fresh;
+      size = c.balance.ensures.made.size ∙ c.insert-left.ensures.size ∙ e.size;
     }
 
 pub returns-in-Equal : goal.returns-in-Equal
@@ -119,11 +119,11 @@ returns-in-Equal g t c =
     let equal = sym c.in-Equal.ensures in
     record {
       owned = inserted-equal _ _ _ _ _ c.take_apart-node.result _ _ n e.owned _ _ equal c.replace.ensures.owned;
-      used = λ u carries. omega (arith, fewer, c.replace.ensures.grown.used);
-      replaced = λ u carries there. omega (arith, standing-height (standing d.trees) u carries, d.balanced.0, fewer, c.replace.ensures.grown.used);
-      appended = λ u carries behind. omega (arith, fewer, c.replace.ensures.grown.used);
-      fresh = c.replace.ensures.grown.fresh;
-      size = c.replace.ensures.grown.size ∙ e.size;
+      used = λ u carries. omega (arith, fewer, c.replace.ensures.made.used);
+      replaced = λ u carries there. omega (arith, standing-height (standing d.trees) u carries, d.balanced.0, fewer, c.replace.ensures.made.used);
+      appended = λ u carries behind. omega (arith, fewer, c.replace.ensures.made.used);
+      fresh = c.replace.ensures.made.fresh;
+      size = c.replace.ensures.made.size ∙ e.size;
     }
 
 pub returns-in-Greater : goal.returns-in-Greater
@@ -138,16 +138,16 @@ returns-in-Greater g t c =
     let greater = sym c.in-Greater.ensures in
     record {
       owned = inserted-greater _ _ _ _ _ c.take_apart-node.result _ _ n e.owned _ _ _ _ greater c.insert-right.ensures.owned (puts balance _ _ c.take_apart-node.result _ _ _ _ c.balance-in-Greater.ensures.owned (search rules));
-      used = λ u carries. omega (arith, standing-height (standing d.trees) u carries, d.balanced.0, fewer, used, c.balance-in-Greater.ensures.grown.used);
+      used = λ u carries. omega (arith, standing-height (standing d.trees) u carries, d.balanced.0, fewer, used, c.balance-in-Greater.ensures.made.used);
       replaced = λ u carries there.
           let side = c.insert-right.ensures.replaced _ carried (present-side d.trees _ _ e.owned u carries place Greater greater there) in
-          omega (arith, standing-height (standing d.trees) u carries, d.balanced.0, fewer, side, c.balance-in-Greater.ensures.grown.used);
+          omega (arith, standing-height (standing d.trees) u carries, d.balanced.0, fewer, side, c.balance-in-Greater.ensures.made.used);
       appended = λ u carries behind.
           let after = whole-behind d.trees u carries place behind in
           let side = c.insert-right.ensures.appended _ carried after.1 in
           let one : used_of c.balance-in-Greater.new.pool ≡ used_of c.insert-right.new.pool + 1 =
           appended-used d _ _ e.owned place (g.K.Key.words c.args.key) (g.V.Value.word c.args.value) c.insert-right.new.pool c.balance-in-Greater.new.pool c.insert-right.result c.insert-right.ensures.owned after.1 c.insert-right.ensures.fresh c.balance-in-Greater.ensures.level c.balance-in-Greater.ensures.single in
           omega (arith, standing-height (standing d.trees) u carries, d.balanced.0, fewer, side, one);
-      fresh = c.balance-in-Greater.ensures.grown.fresh;
-      size = c.balance-in-Greater.ensures.grown.size ∙ c.insert-right.ensures.size ∙ e.size;
+      fresh = c.balance-in-Greater.ensures.made.fresh;
+      size = c.balance-in-Greater.ensures.made.size ∙ c.insert-right.ensures.size ∙ e.size;
     }

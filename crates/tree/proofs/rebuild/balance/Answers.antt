@@ -62,7 +62,7 @@ returns-then-is_too_high c =
     let n = c.stored_height-behind.ensures in
     record {
       owned = balanced_left _ _ c.args.root _ _ _ _ m n test _ c.rotate.ensures.owned;
-      grown = c.rotate.ensures.grown;
+      made = c.rotate.ensures.made;
       level = λ nested l r hs h low high.
           let x = m l (left-carries _ c.args.root _ c.args.root.right nested l r hs h) in
           let y = n r (right-carries _ c.args.root c.args.root.left _ nested l r hs h) in
@@ -81,7 +81,7 @@ returns-then-is_too_high-2 c =
     let n = c.stored_height-behind.ensures in
     record {
       owned = balanced_right _ _ c.args.root _ _ _ _ m n low test _ c.rotate-then-is_too_high-2.ensures.owned;
-      grown = c.rotate-then-is_too_high-2.ensures.grown;
+      made = c.rotate-then-is_too_high-2.ensures.made;
       level = λ nested l r hs h by_left by_right.
           let x = m l (left-carries _ c.args.root _ c.args.root.right nested l r hs h) in
           let y = n r (right-carries _ c.args.root c.args.root.left _ nested l r hs h) in
@@ -97,7 +97,7 @@ returns-else-is_too_high-2 c =
     let n = c.stored_height-behind.ensures in
     record {
       owned = balanced-level _ _ c.args.root _ _ _ _ m n low high _ c.build.ensures.owned;
-      grown = record { used = omega (arith, c.build.ensures.used); fresh = c.build.ensures.fresh; size = c.build.ensures.size };
+      made = record { used = omega (arith, c.build.ensures.used); fresh = c.build.ensures.fresh; size = c.build.ensures.size };
       level = λ nested l r hs h by_left by_right. c.build.ensures.used;
       single = λ nested l r hs h high leans one. c.build.ensures.used;
     }

@@ -56,10 +56,10 @@ returns-then-is_double c =
     let f = faced c.args.end c.requires.numbered c.turned-near.ensures.first c.turned-near.ensures.second in
     let e = c.take_apart-child.ensures in
     let s = parted c.args.end c.requires.ready f e.node e.owned e.shared e.last c.turned-outer.ensures.first c.turned-outer.ensures.second in
-    let g = c.rotate_double.ensures.grown in
+    let g = c.rotate_double.ensures.made in
     record {
       owned = rotated-twice s _ _ c.stored_height.ensures c.stored_height-2.ensures _ _ c.turned.ensures.first c.turned.ensures.second test _ _ c.rotate_double.ensures.owned;
-      grown = record { used = omega (arith, g.used); fresh = g.fresh; size = g.size ∙ e.size };
+      made = record { used = omega (arith, g.used); fresh = g.fresh; size = g.size ∙ e.size };
       single = λ is nested l r hs h leans one.
           absurd (omega (arith, test, leans-single s _ _ c.stored_height.ensures c.stored_height-2.ensures is nested l r hs h leans));
     }
@@ -74,6 +74,6 @@ returns-else-is_double c =
     record {
       owned = rotated-once s _ _ c.stored_height.ensures c.stored_height-2.ensures _ _ _ _ (ltb-false _ _ (sym c.is_double.ensures ∙ c.if-is_double.false))
           (joins c.args.end _ c.args.root _ _ _ c.over.ensures _ _ a.owned) (joins c.args.end _ c.take_apart-child.result _ _ _ c.over-else-is_double.ensures _ _ b.owned);
-      grown = record { used = omega (arith, a.used, b.used); fresh = b.fresh; size = b.size ∙ a.size ∙ e.size };
+      made = record { used = omega (arith, a.used, b.used); fresh = b.fresh; size = b.size ∙ a.size ∙ e.size };
       single = λ is nested l r hs h leans one. omega (arith, a.used, b.used, last-less s is one);
     }

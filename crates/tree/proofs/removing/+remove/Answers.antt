@@ -78,8 +78,8 @@ returns-in-Less g t c =
     let less = sym c.in-Less.ensures in
     record {
       owned = removed-less _ _ _ _ c.take_apart-node.result n e.owned _ _ _ _ less c.remove-left.ensures.owned (puts balance _ _ c.take_apart-node.result _ _ _ _ c.balance.ensures.owned (search rules));
-      used = λ u carries. omega (arith, standing-height d.trees u carries, left-lower d.trees d.balanced, fewer, used, c.balance.ensures.grown.used);
-      size = c.balance.ensures.grown.size ∙ c.remove-left.ensures.size ∙ e.size;
+      used = λ u carries. omega (arith, standing-height d.trees u carries, left-lower d.trees d.balanced, fewer, used, c.balance.ensures.made.used);
+      size = c.balance.ensures.made.size ∙ c.remove-left.ensures.size ∙ e.size;
     }
 
 pub returns-in-Equal : goal.returns-in-Equal
@@ -106,6 +106,6 @@ returns-in-Greater g t c =
     let greater = sym c.in-Greater.ensures in
     record {
       owned = removed-greater _ _ _ _ c.take_apart-node.result n e.owned _ _ _ _ greater c.remove-right.ensures.owned (puts balance _ _ c.take_apart-node.result _ _ _ _ c.balance-in-Greater.ensures.owned (search rules));
-      used = λ u carries. omega (arith, standing-height d.trees u carries, right-lower d.trees d.balanced, fewer, used, c.balance-in-Greater.ensures.grown.used);
-      size = c.balance-in-Greater.ensures.grown.size ∙ c.remove-right.ensures.size ∙ e.size;
+      used = λ u carries. omega (arith, standing-height d.trees u carries, right-lower d.trees d.balanced, fewer, used, c.balance-in-Greater.ensures.made.used);
+      size = c.balance-in-Greater.ensures.made.size ∙ c.remove-right.ensures.size ∙ e.size;
     }

@@ -50,6 +50,6 @@ returns t c =
     let used = c.take_first-lower.ensures.used _ (stood-left d.trees _ _ e.owned) in
     record {
       owned = first-lower _ _ _ c.take_apart-node.result e.owned some _ c.take_first-lower.result.node _ c.take_first-lower.ensures.owned _ _ (puts balance _ _ c.take_apart-node.result _ _ _ _ c.balance-rest.ensures.owned (search rules));
-      used = λ u carries. omega (arith, fewer, used, standing-height d.trees u carries, left-lower d.trees d.balanced, c.balance-rest.ensures.grown.used);
-      size = c.balance-rest.ensures.grown.size ∙ c.take_first-lower.ensures.size ∙ e.size;
+      used = λ u carries. omega (arith, fewer, used, standing-height d.trees u carries, left-lower d.trees d.balanced, c.balance-rest.ensures.made.used);
+      size = c.balance-rest.ensures.made.size ∙ c.take_first-lower.ensures.size ∙ e.size;
     }

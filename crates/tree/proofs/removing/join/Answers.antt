@@ -31,7 +31,7 @@ returns c =
     let some : 0 < c.args.right = omega (arith, c.if-right-eq0.false) in
     record {
       owned = joined-both _ _ _ _ c.take_first-first.result.node _ some f.owned (omega (arith, c.if-left-eq0.false)) _ _ (puts balance _ _ c.take_first-first.result.node _ _ _ _ c.balance.ensures.owned (search rules));
-      used = λ r carries. omega (arith, f.used r carries, c.balance.ensures.grown.used);
-      within = λ l r hs h. omega (arith, f.used r (second-carries _ _ _ l r hs h), c.balance.ensures.grown.used);
-      size = c.balance.ensures.grown.size ∙ f.size;
+      used = λ r carries. omega (arith, f.used r carries, c.balance.ensures.made.used);
+      within = λ l r hs h. omega (arith, f.used r (second-carries _ _ _ l r hs h), c.balance.ensures.made.used);
+      size = c.balance.ensures.made.size ∙ f.size;
     }
