@@ -23,8 +23,8 @@ impl Register<'_> {
         ensures { result ≡ tallied (shown self.now) }
     {
         Tally {
-            in_use: self.pool.in_use() as u32,
-            free: self.pool.available() as u32,
+            in_use: u32::from(self.pool.in_use()),
+            free: u32::from(self.pool.available()),
             lines: self.table.live(),
         }
     }

@@ -25,11 +25,8 @@ fn entry<K: Key, V: Value>(key: K, value: V) -> Node
     Node {
         key: key.to_words(),
         word: value.to_word(),
-        left: 0,
-        right: 0,
         nested: value.to_link(),
-        height: 0,
-        count: 0,
+        ..Node::default()
     }
 }
 
