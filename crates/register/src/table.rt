@@ -25,7 +25,7 @@ pub struct Record {
     pub state: State,
 }
 
-/// The 64 places, each free or with the record of a live line.
+/// The 64 places, each free or with the record of a live line: an array and no map, since nothing is taken from the heap.
 #[derive(Drop)]
 pub struct Table {
     lines: [Option<Record>; 64],

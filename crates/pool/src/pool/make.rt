@@ -42,6 +42,7 @@ fn free_all(nodes: &mut [Node]) -> u16
     ensures { FreePast nodes.new result 0 }
 {
     let mut first = 0;
+    // By index, since a proof knows nothing of what is written through `iter_mut().enumerate().rev()`.
     for i in (0..nodes.len()).rev() {
         nodes[i] = Node::vacant(first);
         first = i as u16 + 1;
