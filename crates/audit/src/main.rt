@@ -4,9 +4,8 @@
 
 ghost use Rattle.std.specs.Prelude.{◌≤◌, IfOk, vec_len};
 
-use anyhow::anyhow;
 use pool::Node;
-use script::{Stopped, run};
+use script::run;
 use std::io;
 use std::io::{Read, Write};
 
@@ -41,9 +40,9 @@ fn audit(rt: &HostRuntime) -> anyhow::Result<()> {
             rt.stdout().write_all(&report[..length])?;
             Ok(())
         }
-        Err(Stopped { length, why }) => {
-            rt.stdout().write_all(&report[..length])?;
-            Err(anyhow!("refused ({}): {why}", u8::from(why)))
+        Err(stopped) => {
+            rt.stdout().write_all(&report[..stopped.length])?;
+            Err(stopped.into())
         }
     }
 }

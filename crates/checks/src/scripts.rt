@@ -1,7 +1,9 @@
 //! Scripts and their reports, fields and their readings.
 
 use pool::Node;
-use script::{Lexer, run};
+use register::Refusal;
+use script::{Lexer, Stopped, run};
+use std::test::Fail;
 
 /// How a run ended: the report's length, and the refusal's number or 0.
 fn outcome(script: &[u8], out: &mut [u8]) -> (usize, u8) {
@@ -78,6 +80,20 @@ fn script_length_has_a_limit(rt: HostRuntime) {
     let mut out = [7; 32];
     assert_eq!(rt; outcome(&script, &mut out), (0, 17));
     assert_eq!(rt; out, [7; 32], "nothing is written");
+}
+
+#[test]
+fn refused_runs_are_printed(rt: HostRuntime) -> Result<(), Fail> {
+    let why = Refusal::ScriptTooLong;
+    let long = Stopped { length: 0, why }.to_string(rt.alloc())?;
+    assert_eq!(rt;
+        long.as_str(),
+        "refused (17): the script has more than 32,768 bytes"
+    );
+    let why = Refusal::ReportFull;
+    let full = Stopped { length: 5, why }.to_string(rt.alloc())?;
+    assert_eq!(rt; full.as_str(), "refused (20): the report does not fit");
+    Ok(())
 }
 
 #[test]

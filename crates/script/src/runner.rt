@@ -15,6 +15,7 @@ use crate::script_lines::ScriptLines;
 use pool::Node;
 use register::{Line, Refusal, Refused, Register};
 use report::{Full, Piece, Report};
+use thiserror::Error;
 
 /// The longest script that is run, in bytes.
 const LONGEST_SCRIPT: usize = 32768;
@@ -23,7 +24,8 @@ const LONGEST_SCRIPT: usize = 32768;
 const MOST_NODES: usize = 65535;
 
 /// A run that was refused: how long the report is, and why it stopped.
-#[derive(Clone, Copy)]
+#[derive(Clone, Copy, Debug, Error)]
+#[error("refused ({}): {why}", u8::from(*.why))]
 pub struct Stopped {
     pub length: usize,
     pub why: Refusal,
