@@ -8,7 +8,7 @@ mod owners;
 mod store;
 
 /// Nodes are numbered from 1: node n is element n - 1 of the slice. They name one another by number and not by `Box`, since
-/// their memory is lent, and 0 names none, as in a node's links.
+/// their memory is lent, and 0 names none, as in a node's links. They are 65,535 at most, so `as u16` is proved to lose nothing.
 #[derive(Drop)]
 pub struct Pool<'m> {
     nodes: &'m mut [Node],

@@ -26,6 +26,7 @@ pub struct Record {
 }
 
 /// The 64 places, each free or with the record of a live line: an array and no map, since nothing is taken from the heap.
+/// A place is a `u32` to callers and a `usize` here. There is no `From` between them, and `as` is proved to lose nothing.
 #[derive(Drop)]
 pub struct Table {
     lines: [Option<Record>; 64],

@@ -87,6 +87,7 @@ fn clear(register: &mut Register<'_>) -> u32
 }
 
 /// A run of a script: its register, how many lines came so far, and how many of them were refused.
+/// The report is lent beside it: were it a field, a proof would lose the bytes that the report was lent.
 #[derive(Drop)]
 struct Runner<'n> {
     register: Register<'n>,

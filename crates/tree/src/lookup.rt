@@ -1,4 +1,5 @@
-//! Questions to a tree of ascending keys, answered on the way down.
+//! Questions to a tree of ascending keys, answered on the way down. Each takes the pool and a root, and no struct of both,
+//! since a caller keeps one pool and many roots.
 
 ghost use Rattle.std.specs.Prelude.{◌≡◌, if◌then◌else◌, Some};
 ghost use Rattle.pool.specs.Held.{Carries};
