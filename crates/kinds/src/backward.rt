@@ -15,7 +15,7 @@ use std::cmp::Ordering;
 use tree::Key;
 
 /// A name in the backward order: by bytes, the greater first.
-/// It is no `Reverse<Name>`: that is no key, and its `cmp` says nothing of the bytes.
+/// `Reverse<Name>` would not do: it is no `Key`, and no clause of its `cmp` speaks of the bytes.
 #[derive(Clone, Copy, PartialEq, Eq)]
 pub struct BackwardName {
     pub name: Name,
@@ -38,6 +38,7 @@ impl Ord for BackwardName {
     }
 }
 
+/// As `cmp`; a derive would go forward.
 impl PartialOrd for BackwardName {
     ghost partial_cmp = { as_partial_cmp (flip_args (on (λ backward. backward.name.words) by_words)) };
 

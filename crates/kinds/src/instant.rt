@@ -20,7 +20,7 @@ impl From<u32> for Instant {
 }
 
 impl Instant {
-    /// How many seconds. A conversion would not name the unit.
+    /// How many seconds. It is no `From`, so that a caller names the unit.
     pub fn seconds(self) -> u32
         ensures { result ≡ self.seconds }
     {

@@ -70,7 +70,7 @@ impl Name {
 }
 
 /// Names go by their bytes, a shorter prefix first. A zero byte is below every byte of a name, so that their words go
-/// the same way.
+/// the same way. By hand, since `cmp` states both, and a derive has no clause.
 impl Ord for Name {
     ghost cmp = { on (λ name. name.words) by_words };
 

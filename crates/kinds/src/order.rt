@@ -9,7 +9,7 @@ use crate::name::Name;
 use tree::Key;
 
 /// An order of names: a kind of key that has a key for each name.
-/// These are calls of its own, since the contract of a `From` is a relation, and the law below needs two functions.
+/// Its calls are no `From`: the contract of a `From` is a relation, and the law below needs two functions.
 pub trait NameOrder: Key {
     ghost named: { Name → Self };
 

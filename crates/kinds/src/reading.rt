@@ -17,7 +17,7 @@ pub struct Reading {
 pub struct OutOfRange;
 
 impl Reading {
-    /// How many microhertz. A conversion would not name the unit.
+    /// How many microhertz. It is no `From`, so that a caller names the unit.
     pub fn microhertz(self) -> i64
         ensures value { result ≡ self.microhertz }
         ensures range { InRange result }

@@ -10,8 +10,8 @@ pub struct Words {
     pub low: u64,
 }
 
-/// A node of 40 bytes. A link is the number of another node, and 0 is no link: an `Option` of a number takes twice the
-/// bytes, and the node would have 48.
+/// A node of 40 bytes. A link is the number of another node, and 0 is no link, here and wherever a node is named: an `Option`
+/// of a 16-bit number, also of a `NonZeroU16`, takes 4 bytes, and the node would have 48.
 #[derive(Clone, Copy, Default)]
 pub struct Node {
     pub key: Words,

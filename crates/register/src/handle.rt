@@ -6,7 +6,7 @@ ghost use Rattle.std.specs.Prelude.{◌≡◌};
 use crate::refusal::Refusal;
 use std::marker::PhantomData;
 
-/// The serial of a spent handle: no line ever has it. A handle is two plain numbers, so that nothing else can mark it.
+/// The serial of a spent handle: no line ever has it. A handle is two plain numbers, so only one of them can mark it as spent.
 pub const SPENT: u32 = u32::MAX;
 
 /// The handle of a line that is in the state `S`.

@@ -39,6 +39,7 @@ impl<'m> Register<'m> {
         if serial > LAST_SERIAL {
             return Err(Refusal::SerialsExhausted);
         }
+        // `as` is proved to lose nothing of a place.
         let line = Line::from_parts(place as u32, serial);
         self.table.put(&line, State::AtRest);
         self.next = serial + 1;

@@ -43,6 +43,7 @@ pub enum Refusal {
     Unreadable = 18,
     #[error("the command does not belong inside, or outside, a sitting")]
     OutOfPlace = 19,
+    /// A report line does not fit.
     #[error("the report does not fit")]
     ReportFull = 20,
 }

@@ -26,7 +26,8 @@ pub struct Record {
 }
 
 /// The 64 places, each free or with the record of a live line: an array and no map, since nothing is taken from the heap.
-/// A place is a `u32` to callers and a `usize` here. There is no `From` between them, and `as` is proved to lose nothing.
+/// A place is a `u32` in a handle and a `usize` in the array. There is no `From` between them, and `as` is proved to lose
+/// nothing.
 #[derive(Drop)]
 pub struct Table {
     lines: [Option<Record>; 64],
@@ -93,7 +94,7 @@ impl Table {
         self.lines[line.place() as usize] = Some(Record { serial, state });
     }
 
-    /// Frees the place of this line; the handle is no more.
+    /// Frees the place of this line; the handle is spent.
     pub fn free(&mut self, line: Line)
         requires { line.place < 64 }
         ensures { self.new.lines ≡ slice_set self.old.lines line.place None }

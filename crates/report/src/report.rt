@@ -3,7 +3,6 @@
 ghost use Rattle.std.specs.Prelude.{◌≤◌, length};
 
 use itoa::Buffer;
-use thiserror::Error;
 
 /// One piece of a report line.
 #[derive(Clone, Copy, Debug, PartialEq, Eq)]
@@ -16,8 +15,7 @@ pub enum Piece {
 }
 
 /// There is no room for what was to be written.
-#[derive(Clone, Copy, Debug, PartialEq, Eq, Error)]
-#[error("there is no room left in the report")]
+#[derive(Clone, Copy, Debug, PartialEq, Eq)]
 pub struct Full;
 
 /// A report over the caller's bytes: its text is the first `written` of them.
@@ -78,7 +76,7 @@ impl<'m> Report<'m> {
         self.put(b"\n")
     }
 
-    /// Writes the text of one piece. A `write!` would not say what a failed write leaves.
+    /// Writes the text of one piece. `write!` has no clause on what a failed write leaves.
     fn put_piece(&mut self, piece: Piece) -> Result<(), Full>
         ensures { Writes self.old (text_of piece) result self.new }
     {

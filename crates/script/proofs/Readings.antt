@@ -34,6 +34,12 @@ nonzero-parts (Some n) m e =
           let is : n ≡ m = cc in (same, omega arith)
     ]
 
+-- the number after a minus sign, where the first byte is one
+pub after_minus_lem : (text : List ℕ) → 0 < length text → get_or text 0 0 ≡ 45 → number_of (take (length text - 1) (drop 1 text)) ≡ after_minus text
+after_minus_lem [] some sign = absurd (omega arith)
+after_minus_lem (first ∷ rest) some sign =
+    ap number_of (take_rest (first ∷ rest) 1) ∙ sym (cond-true (eqb first 45) (number_of rest) None (eq-eqb first 45 sign))
+
 -- a magnitude comes after a minus sign
 pub magnitude-parts : (text : List ℕ) (m : ℕ) → magnitude_of text ≡ Some m → (rest : List ℕ) × (text ≡ 45 ∷ rest) × (number_of rest ≡ Some m) × (0 < m)
 magnitude-parts [] m e = let z : ◌≡◌ {A = ℕ} 0 1 = cc in absurd (omega arith)

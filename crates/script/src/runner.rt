@@ -75,7 +75,7 @@ fn answer(register: &mut Register<'_>, fields: Lexer<'_>) -> Result<Reply, Refus
     Ok(Reply::Done)
 }
 
-/// Retires the lines of all shelves, and gives the nodes that are then in use.
+/// Retires the lines of all shelves, and gives how many nodes are then in use.
 fn clear(register: &mut Register<'_>) -> u32
     ensures after { shown register.new ≡ cleared 26 (shown register.old) }
     ensures in_use { result ≡ (shown register.new).used }
@@ -87,7 +87,7 @@ fn clear(register: &mut Register<'_>) -> u32
 }
 
 /// A run of a script: its register, how many lines came so far, and how many of them were refused.
-/// The report is lent beside it: were it a field, a proof would lose the bytes that the report was lent.
+/// The report is no field of it: with it as a field, a proof knows nothing of the lent bytes after a call.
 #[derive(Drop)]
 struct Runner<'n> {
     register: Register<'n>,

@@ -1,4 +1,4 @@
-//! The two ends of the keys: what lies to the left is on the first, what lies to the right on the last.
+//! The two ends of the order of keys: the first is to the left, the last to the right.
 
 ghost use Rattle.std.specs.Prelude.{◌≡◌};
 ghost use Rattle.tree.specs.Ends.{at_end};
@@ -13,8 +13,8 @@ pub(crate) enum End {
 }
 
 impl End {
-    /// The two in this order at the first end, swapped at the last: so left and right become near and far, and near and far
-    /// become left and right.
+    /// Gives the pair as it is at the first end, and swapped at the last. So it turns left and right into near and far, and
+    /// back.
     pub(crate) fn turned<T>(self, first: T, second: T) -> (T, T)
         ensures first { result.0 ≡ at_end self first second }
         ensures second { result.1 ≡ at_end self second first }
@@ -32,7 +32,7 @@ impl End {
         self.turned(node.left, node.right).0
     }
 
-    /// A node over two other sides, the first of them on this end.
+    /// The node over other sides: `near` on this end, `far` on the other.
     pub(crate) fn over(self, node: Node, near: u16, far: u16) -> Node
         ensures { result ≡ record node { left = at_end self near far; right = at_end self far near } }
     {

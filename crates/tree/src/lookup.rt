@@ -1,5 +1,5 @@
-//! Questions to a tree of ascending keys, answered on the way down. Each takes the pool and a root, and no struct of both,
-//! since a caller keeps one pool and many roots.
+//! Questions to a tree of ascending keys, answered on the way down. Each takes the pool and a root, as the changes of a tree
+//! do: a struct of both would hold the pool borrowed, and be made anew for each call.
 
 ghost use Rattle.std.specs.Prelude.{◌≡◌, if◌then◌else◌, Some};
 ghost use Rattle.pool.specs.Held.{Carries};

@@ -47,8 +47,8 @@ pub(crate) fn build(pool: &mut Pool<'_>, root: Node) -> u16
     pool.take(Node { height, ..root })
 }
 
-/// Two roots, with a side before the lower, one between them, and one behind the upper: the root of the side between
-/// comes up.
+/// Puts two roots together again, with the side before the lower, the one between them, and the one behind the upper.
+/// The root of the side between comes up.
 fn rotate_double(pool: &mut Pool<'_>, lower: Node, middle: u16, upper: Node) -> u16
     requires ready { Doubled pool.old lower upper middle }
     requires room { used_of pool.old + 3 ≤ length (memory_of pool.old) }

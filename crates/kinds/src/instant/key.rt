@@ -12,7 +12,7 @@ use pool::Words;
 use std::cmp::Ordering;
 use tree::Key;
 
-/// Instants go by their number. A derived order would be the same, and would not say so.
+/// Instants go by their number. By hand, since `cmp` states it, and a derive has no clause.
 impl Ord for Instant {
     ghost cmp = { on (λ instant. instant.seconds) nat_cmp };
 
@@ -22,7 +22,9 @@ impl Ord for Instant {
 
     ghost matches_eq = { Prim.search (comparing, rules) };
 
-    fn cmp(&self, other: &Instant) -> Ordering {
+    fn cmp(&self, other: &Instant) -> Ordering
+        ensures { result ≡ nat_cmp self.now.seconds other.now.seconds }
+    {
         self.seconds.cmp(&other.seconds)
     }
 }

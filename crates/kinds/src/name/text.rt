@@ -4,7 +4,7 @@ ghost use Rattle.std.specs.Prelude.{◌≡◌, ◌≤◌, take};
 
 use crate::name::LONGEST;
 
-/// The bytes of a name, at most 16, with zero bytes behind.
+/// The bytes of a name, at most 16, with zero bytes behind: an array, since nothing is taken from the heap.
 #[derive(Clone, Copy)]
 pub struct NameText {
     pub bytes: [u8; LONGEST],
