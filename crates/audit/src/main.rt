@@ -35,16 +35,12 @@ fn audit(rt: &HostRuntime) -> anyhow::Result<()> {
     let script = read_script(rt)?;
     let mut nodes = [Node::default(); NODES];
     let mut report = [0; REPORT_BYTES];
-    match run(&script, &mut nodes, FIRST_SERIAL, &mut report) {
-        Ok(length) => {
-            rt.stdout().write_all(&report[..length])?;
-            Ok(())
-        }
-        Err(stopped) => {
-            rt.stdout().write_all(&report[..stopped.length])?;
-            Err(stopped.into())
-        }
-    }
+    let (length, ended) = match run(&script, &mut nodes, FIRST_SERIAL, &mut report) {
+        Ok(length) => (length, Ok(())),
+        Err(stopped) => (stopped.length, Err(stopped.into())),
+    };
+    rt.stdout().write_all(&report[..length])?;
+    ended
 }
 
 fn main(rt: HostRuntime) -> anyhow::Result<()> {

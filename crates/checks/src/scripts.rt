@@ -5,20 +5,17 @@ use register::Refusal;
 use script::{Lexer, Stopped, run};
 use std::test::Fail;
 
-/// How a run ended: the report's length, and the refusal's number or 0.
-fn outcome(script: &[u8], out: &mut [u8]) -> (usize, u8) {
+/// How a run ended: the report's length, and with it the refusal's number where it was refused.
+fn outcome(script: &[u8], out: &mut [u8]) -> Result<usize, (usize, u8)> {
     let mut nodes = [Node::default(); 8];
-    match run(script, &mut nodes, 1, out) {
-        Ok(length) => (length, 0),
-        Err(stopped) => (stopped.length, u8::from(stopped.why)),
-    }
+    run(script, &mut nodes, 1, out).map_err(|stopped| (stopped.length, u8::from(stopped.why)))
 }
 
 /// Whether the script gives just this report.
 fn reports(script: &[u8], report: &[u8]) -> bool {
     let mut out = [0; 256];
-    let (length, why) = outcome(script, &mut out);
-    why == 0 && out.get(0..length) == Some(report)
+    let ended = outcome(script, &mut out);
+    ended.is_ok_and(|length| out.get(..length) == Some(report))
 }
 
 /// The instant that the first field of a line is read as.
@@ -76,9 +73,9 @@ fn unreadable_lines_are_refused(rt: HostRuntime) {
 fn script_length_has_a_limit(rt: HostRuntime) {
     let script = [10; 32769];
     let mut out = [7; 32];
-    assert_eq!(rt; outcome(&script[0..32768], &mut out), (14, 0));
+    assert_eq!(rt; outcome(&script[0..32768], &mut out), Ok(14));
     let mut out = [7; 32];
-    assert_eq!(rt; outcome(&script, &mut out), (0, 17));
+    assert_eq!(rt; outcome(&script, &mut out), Err((0, 17)));
     assert_eq!(rt; out, [7; 32], "nothing is written");
 }
 
@@ -100,13 +97,17 @@ fn refused_runs_are_printed(rt: HostRuntime) -> Result<(), Fail> {
 fn full_report_keeps_its_whole_lines(rt: HostRuntime) {
     assert_eq!(rt;
         outcome(b"N\tA\n", &mut [0; 15]),
-        (15, 0),
+        Ok(15),
         "the last byte is used"
     );
-    assert_eq!(rt; outcome(b"N\tA\n", &mut [0; 14]), (5, 20), "one byte over");
-    assert_eq!(rt; outcome(b"N\tA\n", &mut [0; 5]), (5, 20));
-    assert_eq!(rt; outcome(b"N\tA\n", &mut [0; 4]), (0, 20));
-    assert_eq!(rt; outcome(b"", &mut []), (0, 20));
+    assert_eq!(rt;
+        outcome(b"N\tA\n", &mut [0; 14]),
+        Err((5, 20)),
+        "one byte over"
+    );
+    assert_eq!(rt; outcome(b"N\tA\n", &mut [0; 5]), Err((5, 20)));
+    assert_eq!(rt; outcome(b"N\tA\n", &mut [0; 4]), Err((0, 20)));
+    assert_eq!(rt; outcome(b"", &mut []), Err((0, 20)));
 }
 
 #[test]

@@ -14,6 +14,17 @@ pub enum Piece {
     Number(i64),
 }
 
+impl From<u32> for Piece {
+    ghost use Rattle.std.specs.Prelude.{◌≡◌, pos};
+    ghost use Rattle.report.specs.declared.report.Piece.TheVariants.{Number};
+
+    ghost from_gives = { λ count piece. piece ≡ Number (pos count) };
+
+    fn from(count: u32) -> Piece {
+        Piece::Number(i64::from(count))
+    }
+}
+
 /// There is no room for what was to be written.
 #[derive(Clone, Copy, Debug, PartialEq, Eq)]
 pub struct Full;

@@ -1,8 +1,9 @@
 -- The steps of a run through the lines of a script.
-use Rattle.std.proofs.Common.{suc, eqb, ◌≡◌, ℕ, ◌+◌, ◌<◌, ◌≤◌, true, false, cond, List, [], ◌∷◌, length, take, pos, Ok, Err, Result, MatchResult, sym, refl, ap, ◌∙◌, subst, arith}
+use Rattle.std.proofs.Common.{suc, ◌≡◌, ℕ, ◌+◌, ◌<◌, ◌≤◌, false, List, [], ◌∷◌, length, take, pos, Ok, Err, Result, MatchResult, refl, ◌∙◌, arith}
+use Rattle.std.proofs.lemmas.Grind.{common_steps}
+use Rattle.std.proofs.lemmas.List.{length-take}
 use Rattle.register.specs.Shown.{Shown}
 use Rattle.register.specs.declared.refusal.Refusal.TheVariants.{ReportFull}
-use Rattle.script.specs.Answers.{counts_as}
 use Rattle.script.specs.Fields.{fields_of}
 use Rattle.script.specs.Lines.{lines_of, on_first}
 use Rattle.report.specs.Report.{capacity, held, line_text, text, used, LineAdded, LineRefused}
@@ -41,13 +42,11 @@ module _ (whole : List (List ℕ)) (before after : Report) (line : List ℕ) (re
 -- One turn of the run: the first of the lines that are left.
 module _ (whole : List (List ℕ)) (left : List (List ℕ)) (line : List ℕ) (rest : List (List ℕ)) (first : left ≡ line ∷ rest) (lines refused : ℕ) (s : Shown) (before : Report) (along : Along (capacity before) whole (text before) (report_from lines refused s left)) where
   pub turn-empty : length line ≡ 0 → Along (capacity before) whole (text before) (report_from (lines + 1) refused s rest)
-  turn-empty none =
-      subst (λ (r : List (List ℕ)). Along (capacity before) whole (text before) r) (ap (report_from lines refused s) first ∙ report-empty lines refused s line rest none) along
+  turn-empty none = grind (arith, common_steps, report-empty)
 
   module _ (after : Report) (some : 0 < length line) (fields : List (List ℕ)) (read : fields ≡ fields_of line) (same-room : capacity after ≡ capacity before) where
     unrolled : Along (capacity before) whole (text before) (answer_line (lines + 1) s fields ∷ report_from (lines + 1) (refused + refusals s fields) (answered s fields).1 rest)
-    unrolled =
-        rw read (subst (λ (r : List (List ℕ)). Along (capacity before) whole (text before) r) (ap (report_from lines refused s) first ∙ report-line lines refused s line rest some) along)
+    unrolled = grind (arith, common_steps, report-line)
 
     pub turn-line : (refused' : ℕ) (s' : Shown) → LineAdded before (answer_line (lines + 1) s fields) after → refused' ≡ refused + refusals s fields → s' ≡ (answered s fields).1 → Along (capacity after) whole (text after) (report_from (lines + 1) refused' s' rest)
     turn-line refused' s' longer more next =
@@ -57,23 +56,18 @@ module _ (whole : List (List ℕ)) (left : List (List ℕ)) (line : List ℕ) (r
     turn-full same = along-same whole before after _ _ unrolled same-room same
 
 pub refusals-le : (s : Shown) (fields : List (List ℕ)) → refusals s fields ≤ 1
-refusals-le s fields = elim (counts_as (answered s fields).0) as (λ b. cond b 1 0 ≤ 1) [ true ↦ omega arith | false ↦ omega arith ]
+refusals-le s fields = grind (arith, common_steps)
 
 -- past the last line only the end line is to come
 pub turn-none : (room : ℕ) (whole : List (List ℕ)) (written : List ℕ) (left : List (List ℕ)) (lines refused : ℕ) (s : Shown) → left ≡ [] → Along room whole written (report_from lines refused s left) → Along room whole written (end_line lines refused s ∷ [])
 unfolding report_from
-turn-none room whole written left lines refused s none along =
-    subst (λ (rest : List (List ℕ)). Along room whole written (report_from lines refused s rest)) none along
+turn-none room whole written left lines refused s none along = grind (arith, common_steps)
 
 -- a script has no more lines than bytes
 pub lines-le : (bytes : List ℕ) → length (lines_of bytes) ≤ length bytes
 lines-le [] = omega arith
 lines-le (byte ∷ bytes) =
-    let rest = lines-le bytes in
-    elim (eqb byte 10) as (λ b. length (cond b ([] ∷ lines_of bytes) (on_first byte (lines_of bytes))) ≤ suc (length bytes)) [
-      | true ↦ omega arith
-      | false ↦ on_first-le (lines_of bytes) rest
-    ]
+    let rest = lines-le bytes in grind (arith, common_steps, on_first-le)
   where
     on_first-le : (parts : List (List ℕ)) → length parts ≤ length bytes → length (on_first byte parts) ≤ suc (length bytes)
     on_first-le [] h = omega arith
@@ -94,17 +88,12 @@ finished-end whole before after line same-room along (Err full) same =
 
 -- what fits stands at the front of the bytes
 pub finished-text : (whole : List (List ℕ)) (r : Result (Unit {0}) Full) (report : Report) → Finished whole r report → take (length (kept (capacity report) whole)) (held report) ≡ kept (capacity report) whole
-finished-text whole r report done =
-    ap (λ (n : ℕ). take n (held report)) (ap length (sym done.written) ∙ text-length report) ∙ done.written
+finished-text whole r report done = grind (arith, common_steps, text-length)
 
 -- how the run ended, by the length of its report
 module _ (whole : List (List ℕ)) (report : Report) (length' : ℕ) (long : length' ≡ used report) where
   pub ended-whole : Finished whole (Ok tt) report → Ok length' ≡ ended (capacity report) whole
-  ended-whole done =
-      let e : length' ≡ length (kept (capacity report) whole) = long ∙ sym (text-length report) ∙ ap length done.written in
-      rw (done.answer, e)
+  ended-whole done = grind (arith, common_steps, text-length)
 
   pub ended-cut : (full : Full) → Finished whole (Err full) report → Err (record { length = length'; why = ReportFull }) ≡ ended (capacity report) whole
-  ended-cut full done =
-      let e : length' ≡ length (kept (capacity report) whole) = long ∙ sym (text-length report) ∙ ap length done.written in
-      rw (done.answer, e)
+  ended-cut full done = grind (arith, common_steps, text-length)

@@ -1,7 +1,5 @@
 //! What a line of the script is answered, and its line of the report.
 
-ghost use Rattle.std.specs.Prelude.{◌≡◌, pos};
-ghost use Rattle.report.specs.declared.report.Piece.TheVariants.{Number};
 ghost use Rattle.script.specs.Answers.{answer_pieces};
 ghost use Rattle.report.specs.Report.{KeepsRoom, Lined};
 
@@ -17,13 +15,6 @@ pub(crate) enum Reply {
     Counted(Tally),
 }
 
-/// A count as a piece of a report line.
-pub(crate) fn counted(n: u32) -> Piece
-    ensures { result ≡ Number (pos n) }
-{
-    Piece::Number(i64::from(n))
-}
-
 /// Writes the report line of this answer to the line of this number.
 pub(crate) fn write_answer(
     report: &mut Report<'_>,
@@ -33,15 +24,19 @@ pub(crate) fn write_answer(
     ensures same { KeepsRoom report.old report.new }
     ensures lined { Lined report.old (answer_pieces number answer) result report.new }
 {
-    let number = counted(number);
+    let number = Piece::from(number);
     match answer {
         Ok(Reply::Done) => report.line(&[number, Piece::Accepted]),
         Ok(Reply::Counted(tally)) => report.line(&[
             number,
-            counted(tally.in_use),
-            counted(tally.free),
-            counted(tally.lines),
+            Piece::from(tally.in_use),
+            Piece::from(tally.free),
+            Piece::from(tally.lines),
         ]),
-        Err(why) => report.line(&[number, Piece::Refused, counted(u32::from(u8::from(why)))]),
+        Err(why) => report.line(&[
+            number,
+            Piece::Refused,
+            Piece::from(u32::from(u8::from(why))),
+        ]),
     }
 }

@@ -8,7 +8,7 @@ ghost use Rattle.report.specs.Report.{KeepsRoom, LineAdded, LineRefused, used};
 ghost use Rattle.script.specs.Runs.{opened_on, retired_on, answered, cleared};
 ghost use Rattle.script.specs.Scripts.{refusals, answer_line, report_of, RanLines, Finished, TooLong, Reported};
 
-use crate::answer::{Reply, counted, write_answer};
+use crate::answer::{Reply, write_answer};
 use crate::command::{Command, read_command};
 use crate::lexer::Lexer;
 use crate::script_lines::ScriptLines;
@@ -140,9 +140,9 @@ impl Runner<'_> {
         ran?;
         report.line(&[
             Piece::End,
-            counted(self.lines),
-            counted(self.refused),
-            counted(in_use),
+            Piece::from(self.lines),
+            Piece::from(self.refused),
+            Piece::from(in_use),
         ])
     }
 }
