@@ -30,7 +30,8 @@ fn read_script(rt: &HostRuntime) -> io::Result<Vec<u8>>
     Ok(script)
 }
 
-/// Prints the report of the script; a refusal is an error after the report's whole lines.
+/// Prints the report of the script; a refusal is an error after the report's whole lines. The nodes and the report are arrays,
+/// since `run` works in memory that it is lent.
 fn audit(rt: &HostRuntime) -> anyhow::Result<()> {
     let script = read_script(rt)?;
     let mut nodes = [Node::default(); NODES];

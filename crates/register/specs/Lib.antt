@@ -4,3 +4,4 @@ pub mod Tables
 pub mod Shown
 pub mod Lines
 pub mod Questions
+pub mod Spared

@@ -4,6 +4,7 @@ ghost use Rattle.std.specs.Prelude.{◌≡◌, min, true, length, is_err};
 ghost use Rattle.std.specs.Result.{result_err};
 ghost use Rattle.register.specs.Lines.{opened, stowed, stow_declined, fetched, retired};
 ghost use Rattle.register.specs.Shown.{shown, newly_made};
+ghost use Rattle.register.specs.Spared.{Spared};
 
 use crate::handle::{Line, Refused, SPENT};
 use crate::refusal::Refusal;
@@ -31,8 +32,7 @@ impl<'m> Register<'m> {
     pub fn open_line(&mut self) -> Result<Line, Refusal>
         ensures answer { result ≡ (opened (shown self.old)).0 }
         ensures after { shown self.new ≡ (opened (shown self.old)).1 }
-        ensures nodes { self.new.pool ≡ self.old.pool }
-        ensures same { is_err result ≡ true → self.new ≡ self.old }
+        ensures spared { Spared self.old result self.new }
     {
         let place = self.table.vacancy().ok_or(Refusal::LinesExhausted)?;
         let serial = self.next;
@@ -66,8 +66,7 @@ impl<'m> Register<'m> {
     pub fn stow(&mut self, line: Line, letter: u8) -> Result<(), Refused<Line>>
         ensures answer { result ≡ (stowed (shown self.old) line letter).0 }
         ensures after { shown self.new ≡ (stowed (shown self.old) line letter).1 }
-        ensures nodes { self.new.pool ≡ self.old.pool }
-        ensures same { is_err result ≡ true → self.new ≡ self.old }
+        ensures spared { Spared self.old result self.new }
     {
         if let Err(why) = self.may_stow(&line, letter) {
             return Err(Refused { handle: line, why });
@@ -81,8 +80,7 @@ impl<'m> Register<'m> {
     pub fn fetch(&mut self, letter: u8) -> Result<Line, Refusal>
         ensures answer { result ≡ (fetched (shown self.old) letter).0 }
         ensures after { shown self.new ≡ (fetched (shown self.old) letter).1 }
-        ensures nodes { self.new.pool ≡ self.old.pool }
-        ensures same { is_err result ≡ true → self.new ≡ self.old }
+        ensures spared { Spared self.old result self.new }
     {
         if !letter.is_ascii_uppercase() {
             return Err(Refusal::NotAShelf);
@@ -99,8 +97,7 @@ impl<'m> Register<'m> {
     pub fn retire(&mut self, line: Line) -> Result<(), Refused<Line>>
         ensures answer { result ≡ (retired (shown self.old) line).0 }
         ensures after { shown self.new ≡ (retired (shown self.old) line).1 }
-        ensures nodes { self.new.pool ≡ self.old.pool }
-        ensures same { is_err result ≡ true → self.new ≡ self.old }
+        ensures spared { Spared self.old result self.new }
     {
         if !self.table.has(&line, State::AtRest) {
             return Err(Refused {

@@ -1,4 +1,5 @@
-//! Every write of the pool, each stated as one change of the memory.
+//! Every write of the pool, each stated as one change of the memory. That a number is not 0 is required, and no `NonZeroU16`
+//! is taken: callers know it by the facts of the pool, and would have to unwrap one.
 
 ghost use Rattle.std.specs.Prelude.{◌≡◌, ◌+◌, ◌-◌, ◌^◌, ◌<◌, ◌≤◌, length, slice_set};
 ghost use Rattle.pool.specs.Node.{free_node, node_at, with_count};
