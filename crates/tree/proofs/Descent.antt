@@ -1,5 +1,5 @@
 -- What a node in use tells of the tree that it carries, and what a step to one of its sides keeps.
-use Rattle.std.proofs.Common.{◌≡◌, ℕ, ◌<◌, List, Ordering, Less, Equal, Greater, sym, refl, ap, ◌∙◌, subst, arith}
+use Rattle.std.proofs.Common.{true, false, zero, suc, true≢false, ◌≡◌, ℕ, ◌<◌, List, Ordering, Less, Equal, Greater, sym, refl, ap, ◌∙◌, subst, arith}
 use Rattle.pool.proofs.Nodes.{node-free}
 use Rattle.pool.proofs.Pools.{carries-links}
 use Rattle.pool.proofs.Trees.{same-fork}
@@ -15,6 +15,11 @@ use Rattle.tree.specs.Readable.{Readable}
 use Rattle.tree.specs.Shape.{Balanced, height}
 use Rattle.tree.specs.declared.end.End.{End}
 use Rattle.tree.specs.declared.end.End.TheVariants.{First, Last}
+
+-- a number that would be 0 only if two answers were one
+pub numbered : (n : ℕ) → (n ≡ 0 → true ≡ false) → 0 < n
+numbered zero h = absurd (true≢false (h refl))
+numbered (suc n) h = omega arith
 
 -- no node carries the leaf
 pub by-none : (p : Pool) (n : ℕ) → n ≡ 0 → (P : Tree → Type 0) → P leaf → (t : Tree) → Carries p n t → P t

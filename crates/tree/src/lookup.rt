@@ -1,8 +1,10 @@
 //! Questions to a tree of ascending keys, answered on the way down. Each takes the pool and a root, as the changes of a tree
 //! do: a struct of both would hold the pool borrowed, and be made anew for each call.
 
-ghost use Rattle.std.specs.Prelude.{◌≡◌, if◌then◌else◌, Some};
+ghost use Rattle.std.specs.Prelude.{◌≡◌, ◌↔◌, if◌then◌else◌, IfSome, IsNone, Some};
 ghost use Rattle.pool.specs.Held.{Carries};
+ghost use Rattle.pool.specs.Node.{node_at};
+ghost use Rattle.pool.specs.Sound.{memory_of};
 ghost use Rattle.pool.specs.Tree.{Tree};
 ghost use Rattle.std.specs.Option.{option_or};
 ghost use Rattle.std.specs.Ordering.{is_ge};
@@ -18,6 +20,19 @@ use crate::place::{compare_at, is_before, side};
 use crate::value::Value;
 use pool::{Node, Pool};
 use std::cmp::Ordering;
+
+/// The node at the root of a tree, if it has one.
+fn top(pool: &Pool<'_>, root: u16) -> Option<Node>
+    requires { Readable pool.now root }
+    ensures none { IsNone result ↔ (root ≡ 0) }
+    ensures some { IfSome result (λ node. node ≡ node_at (memory_of pool.now) root) }
+{
+    if root == 0 {
+        None
+    } else {
+        Some(pool.node(root))
+    }
+}
 
 /// The value that a node has.
 fn value_of<V: Value>(node: Node) -> V
@@ -61,10 +76,7 @@ pub fn find<K: Key, V: Value>(pool: &Pool<'_>, root: u16, key: K) -> Option<V>
     ensures answered { (t : Tree) → Carries pool.now root t → GivenValue pool.now V.Value.value (find K.Key.key K.cmp key t) result }
     ensures listed { (t : Tree) → Carries pool.now root t → Ascending K.cmp (items K.Key.key t) → GivenValue pool.now V.Value.value (item_at K.cmp key (items K.Key.key t)) result }
 {
-    if root == 0 {
-        return None;
-    }
-    let node = pool.node(root);
+    let node = top(pool, root)?;
     match compare_at(key, node) {
         Ordering::Equal => Some(value_of(node)),
         unequal => find(pool, side(node, unequal), key),
@@ -77,10 +89,7 @@ pub fn at_most<K: Key, V: Value>(pool: &Pool<'_>, root: u16, key: K) -> Option<(
     ensures answered { (t : Tree) → Carries pool.now root t → GivenItem pool.now V.Value.value (at_most K.Key.key K.cmp key t) result }
     ensures listed { (t : Tree) → Carries pool.now root t → Ascending K.cmp (items K.Key.key t) → GivenItem pool.now V.Value.value (last_at_most K.cmp key (items K.Key.key t)) result }
 {
-    if root == 0 {
-        return None;
-    }
-    let node = pool.node(root);
+    let node = top(pool, root)?;
     let ordering = compare_at(key, node);
     let found = at_most(pool, side(node, ordering), key);
     or_at_most(found, node, ordering)
@@ -92,10 +101,7 @@ pub fn after<K: Key, V: Value>(pool: &Pool<'_>, root: u16, key: K) -> Option<(K,
     ensures answered { (t : Tree) → Carries pool.now root t → GivenItem pool.now V.Value.value (after K.Key.key K.cmp key t) result }
     ensures listed { (t : Tree) → Carries pool.now root t → Ascending K.cmp (items K.Key.key t) → GivenItem pool.now V.Value.value (first_after K.cmp key (items K.Key.key t)) result }
 {
-    if root == 0 {
-        return None;
-    }
-    let node = pool.node(root);
+    let node = top(pool, root)?;
     if is_before(key, node) {
         or_item(after(pool, side(node, Ordering::Less), key), node)
     } else {
@@ -109,10 +115,7 @@ fn outermost<K: Key, V: Value>(pool: &Pool<'_>, root: u16, end: End) -> Option<(
     ensures answered { (t : Tree) → Carries pool.now root t → GivenItem pool.now V.Value.value (at_end end (first K.Key.key K.cmp t) (last K.Key.key K.cmp t)) result }
     ensures listed { (t : Tree) → Carries pool.now root t → GivenItem pool.now V.Value.value (at_end end (first_of (items K.Key.key t)) (last_of (items K.Key.key t))) result }
 {
-    if root == 0 {
-        return None;
-    }
-    let node = pool.node(root);
+    let node = top(pool, root)?;
     or_item(outermost(pool, end.side(node), end), node)
 }
 
