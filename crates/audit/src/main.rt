@@ -25,7 +25,7 @@ fn read_script(rt: &HostRuntime) -> io::Result<Vec<u8>>
     rt.stdin()
         .take(SCRIPT_BYTES as u64)
         .read_to_end(&mut script)?;
-    // `take` leaves nothing to cut off, which `read_to_end` does not promise.
+    // `take` leaves nothing to cut off, which `read_to_end` does not promise. There is no `From` of a `usize`.
     script.truncate(SCRIPT_BYTES);
     Ok(script)
 }

@@ -41,7 +41,7 @@ impl<S> Drop for Handle<S> {
 }
 
 impl<S> Handle<S> {
-    /// The handle of these two numbers, whether or not a line has it.
+    /// The handle of these two numbers, whether or not a line has it. A `From` of a pair would not say which is which.
     pub fn from_parts(place: u32, serial: u32) -> Handle<S>
         ensures place { result.place ≡ place }
         ensures serial { result.serial ≡ serial }

@@ -48,7 +48,7 @@ pub enum Refusal {
     ReportFull = 20,
 }
 
-/// The number by which callers know a refusal.
+/// The number by which callers know a refusal: an enum's number has no `From` of its own, so `as` gives it.
 impl From<Refusal> for u8 {
     ghost from_gives = { λ why number. number ≡ number_of why };
 

@@ -1,14 +1,12 @@
 -- The steps of a run through the lines of a script.
-use Rattle.std.proofs.Common.{suc, ◌≡◌, ℕ, ◌+◌, ◌<◌, ◌≤◌, false, List, [], ◌∷◌, length, take, pos, Ok, Err, Result, MatchResult, refl, ◌∙◌, arith}
+use Rattle.std.proofs.Common.{suc, ◌≡◌, ℕ, ◌+◌, ◌<◌, ◌≤◌, false, List, [], ◌∷◌, length, pos, Ok, Err, Result, MatchResult, refl, ◌∙◌, arith}
 use Rattle.std.proofs.lemmas.Grind.{common_steps}
-use Rattle.std.proofs.lemmas.List.{length-take}
 use Rattle.register.specs.Shown.{Shown}
-use Rattle.register.specs.declared.refusal.Refusal.TheVariants.{ReportFull}
 use Rattle.script.specs.Fields.{fields_of}
 use Rattle.script.specs.Lines.{lines_of, on_first}
-use Rattle.report.specs.Report.{capacity, held, line_text, text, used, LineAdded, LineRefused}
+use Rattle.report.specs.Report.{capacity, line_text, text, LineAdded, LineRefused}
 use Rattle.script.specs.Runs.{answered, cleared}
-use Rattle.script.specs.Scripts.{Along, Finished, all_fit, answer_line, end_line, ended, kept, refusals, report_from}
+use Rattle.script.specs.Scripts.{Along, Finished, all_fit, answer_line, end_line, kept, refusals, report_from}
 use Rattle.report.specs.declared.report.Full.{Full}
 use Rattle.report.specs.declared.report.Piece.{Piece}
 use Rattle.report.specs.declared.report.Piece.TheVariants.{End, Number}
@@ -85,15 +83,3 @@ finished-end whole before after line same-room along (Ok _) longer =
 finished-end whole before after line same-room along (Err full) same =
     let ends = along-same whole before after line [] along same-room same in
     record { answer = ends.1; written = ends.0 }
-
--- what fits stands at the front of the bytes
-pub finished-text : (whole : List (List ℕ)) (r : Result (Unit {0}) Full) (report : Report) → Finished whole r report → take (length (kept (capacity report) whole)) (held report) ≡ kept (capacity report) whole
-finished-text whole r report done = grind (arith, common_steps, text-length)
-
--- how the run ended, by the length of its report
-module _ (whole : List (List ℕ)) (report : Report) (length' : ℕ) (long : length' ≡ used report) where
-  pub ended-whole : Finished whole (Ok tt) report → Ok length' ≡ ended (capacity report) whole
-  ended-whole done = grind (arith, common_steps, text-length)
-
-  pub ended-cut : (full : Full) → Finished whole (Err full) report → Err (record { length = length'; why = ReportFull }) ≡ ended (capacity report) whole
-  ended-cut full done = grind (arith, common_steps, text-length)

@@ -112,7 +112,7 @@ impl<'s> Lexer<'s> {
     }
 
     /// The next part of the line, up to a tab or to the line's end, or none after the last.
-    /// A `split` at the tabs would not tell the places in the script.
+    /// A `split` at the tabs would not tell the places in the bytes that are read.
     fn part(&self) -> Option<Part<'s>>
         ensures none { IsNone result ↔ (length self.now.script.now < self.now.next) }
         ensures part { IfSome result (λ part. IsNextPart self.now part) }

@@ -166,13 +166,8 @@ fn run_script(
     };
     let whole = runner.run_whole(&mut report, script);
     let length = report.len();
-    match whole {
-        Ok(()) => Ok(length),
-        Err(_) => Err(Stopped {
-            length,
-            why: Refusal::ReportFull,
-        }),
-    }
+    let why = Refusal::ReportFull;
+    whole.map(|()| length).map_err(|_| Stopped { length, why })
 }
 
 /// Runs a script in a register made over `nodes`, and writes its report into `out`. Gives the report's length.

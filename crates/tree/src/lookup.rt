@@ -22,7 +22,7 @@ use pool::{Node, Pool};
 use std::cmp::Ordering;
 
 /// The node at the root of a tree, if it has one.
-fn top(pool: &Pool<'_>, root: u16) -> Option<Node>
+pub(crate) fn top(pool: &Pool<'_>, root: u16) -> Option<Node>
     requires { Readable pool.now root }
     ensures none { IsNone result ↔ (root ≡ 0) }
     ensures some { IfSome result (λ node. node ≡ node_at (memory_of pool.now) root) }

@@ -9,6 +9,7 @@ ghost use Rattle.tree.specs.Range.{Modest, Totals, inside, walk, within};
 ghost use Rattle.tree.specs.Shape.{Ascending, Balanced, item, items};
 
 use crate::key::Key;
+use crate::lookup::top;
 use crate::place::is_before;
 use pool::{Node, Pool};
 use std::ops::Add;
@@ -71,6 +72,7 @@ fn right_to<K: Key>(node: Node, high: K) -> u16
 }
 
 /// How many keys lie from `low` to `high`, both included, and the sum of their words.
+/// `carried` asks all of one tree, and `Readable` does not say which tree it has.
 /// A side is walked only where it can have such keys. Each word is at most 1,000,000,000,000 either way,
 /// so that the sum is exact.
 pub fn total_between<K: Key>(pool: &Pool<'_>, root: u16, low: K, high: K) -> Total
@@ -79,10 +81,9 @@ pub fn total_between<K: Key>(pool: &Pool<'_>, root: u16, low: K, high: K) -> Tot
     ensures answered { (t : Tree) → Carries pool.now root t → Totals (walk K.cmp K.Key.key low high t) result }
     ensures listed { (t : Tree) → Carries pool.now root t → Ascending K.cmp (items K.Key.key t) → Totals (within K.cmp low high (items K.Key.key t)) result }
 {
-    if root == 0 {
+    let Some(node) = top(pool, root) else {
         return Total::default();
-    }
-    let node = pool.node(root);
+    };
     let below = total_between(pool, left_from(node, low), low, high);
     let above = total_between(pool, right_to(node, high), low, high);
     below + (own(node, low, high) + above)

@@ -1,4 +1,5 @@
-//! Nodes put together with their heights, and rotated where one side is too high.
+//! Nodes put together with their heights, and rotated where one side is too high. The room for three nodes is asked for by itself,
+//! since it is what a caller has to look at: `Balanceable` speaks of the trees.
 
 ghost use Rattle.std.specs.Prelude.{◌≡◌, suc, ◌+◌, ◌<◌, ◌≤◌, max, List, ◌∷◌, length, nat_lt};
 ghost use Rattle.pool.specs.Held.{Carries, Held, Holds, held};

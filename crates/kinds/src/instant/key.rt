@@ -47,7 +47,7 @@ impl Key for Instant {
         }
     }
 
-    /// An instant's low word is within its limit. Any other starts again at 0 past it.
+    /// An instant's low word is within its limit. Any other starts again at 0 past it, so `as` is proved to lose nothing.
     fn from_words(stored: Words) -> Instant {
         Instant {
             seconds: (stored.low % 4294967296) as u32,

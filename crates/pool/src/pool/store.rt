@@ -1,5 +1,6 @@
 //! Every write of the pool, each stated as one change of the memory. That a number is not 0 is required, and no `NonZeroU16`
-//! is taken: callers know it by the facts of the pool, and would have to unwrap one.
+//! is taken: callers know it by the facts of the pool, and would have to unwrap one. That it is a number of the pool, and that
+//! the pool keeps its size, are facts of the pool and the number, or of two pools, which no type of one says.
 
 ghost use Rattle.std.specs.Prelude.{◌≡◌, ◌+◌, ◌-◌, ◌^◌, ◌<◌, ◌≤◌, length, slice_set};
 ghost use Rattle.pool.specs.Node.{free_node, node_at, with_count};
