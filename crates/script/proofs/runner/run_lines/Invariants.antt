@@ -1,0 +1,18 @@
+use Rattle.std.proofs.Common.{◌+◌, ◌≤◌, length, None}
+use Rattle.report.specs.Report.{KeepsRoom}
+use Rattle.script.specs.Lines.{lines_of}
+use Rattle.script.specs.Standings.{Leads, Ready}
+use Rattle.script.proofs.Turning.{OnWay}
+use Rattle.script.proofs.runner.run_lines.Given as goal
+
+-- the run is on its way, and its lines to come are those of the lines that are left
+abbrev pub invariant-loop-line : goal.invariant-loop-line
+invariant-loop-line l =
+    let left = lines_of l.line-iterator.rest.now in
+    record {
+      counted : l.counts.lines + length left ≤ 32768;
+      fewer : l.counts.refused ≤ l.counts.lines;
+      same : KeepsRoom l.initial.report l.report;
+      ready : Ready l.register l.seat;
+      way : Leads l.initial.register None l.register l.seat (OnWay l.initial.report l.report l.fn.script left l.counts.lines l.counts.refused);
+    }
