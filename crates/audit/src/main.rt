@@ -25,26 +25,23 @@ fn read_script(rt: &HostRuntime) -> io::Result<Vec<u8>>
     rt.stdin()
         .take(SCRIPT_BYTES as u64)
         .read_to_end(&mut script)?;
-    // `take` leaves nothing to cut off, which `read_to_end` does not promise.
+    // `take` leaves nothing to cut off, which `read_to_end` does not promise. There is no `From` of a `usize`.
     script.truncate(SCRIPT_BYTES);
     Ok(script)
 }
 
-/// Prints the report of the script; a refusal is an error after the report's whole lines.
+/// Prints the report of the script; a refusal is an error after the report's whole lines. The nodes and the report are arrays,
+/// since `run` works in memory that it is lent.
 fn audit(rt: &HostRuntime) -> anyhow::Result<()> {
     let script = read_script(rt)?;
     let mut nodes = [Node::default(); NODES];
     let mut report = [0; REPORT_BYTES];
-    match run(&script, &mut nodes, FIRST_SERIAL, &mut report) {
-        Ok(length) => {
-            rt.stdout().write_all(&report[..length])?;
-            Ok(())
-        }
-        Err(stopped) => {
-            rt.stdout().write_all(&report[..stopped.length])?;
-            Err(stopped.into())
-        }
-    }
+    let (length, ended) = match run(&script, &mut nodes, FIRST_SERIAL, &mut report) {
+        Ok(length) => (length, Ok(())),
+        Err(stopped) => (stopped.length, Err(stopped.into())),
+    };
+    rt.stdout().write_all(&report[..length])?;
+    ended
 }
 
 fn main(rt: HostRuntime) -> anyhow::Result<()> {

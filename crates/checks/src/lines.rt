@@ -1,41 +1,34 @@
 //! Lines of a register: places, serials, handles.
 
-use kinds::Name;
 use pool::Node;
 use register::{Line, Refusal, Refused, Register};
 use std::test::Fail;
 
 /// Opens a line and gives its handle's numbers.
-fn open_line(register: &mut Register<'_, Name>) -> Result<(u32, u32), Refusal> {
+fn open_line(register: &mut Register<'_>) -> Result<(u32, u32), Refusal> {
     register.open_line().map(Line::into_parts)
 }
 
-/// Stows the line of this handle, and gives the number of the refusal, or 0.
-fn stow(register: &mut Register<'_, Name>, place: u32, serial: u32, letter: u8) -> u8 {
-    match register.stow(Line::from_parts(place, serial), letter) {
-        Ok(()) => 0,
-        Err(Refused { handle, why }) => {
+/// Stows the line of this handle, or gives the number of the refusal.
+fn stow(register: &mut Register<'_>, place: u32, serial: u32, letter: u8) -> Result<(), u8> {
+    register
+        .stow(Line::from_parts(place, serial), letter)
+        .map_err(|Refused { handle, why }| {
             let _ = handle.into_parts();
             u8::from(why)
-        }
-    }
+        })
 }
 
-/// Fetches the line of the shelf, and gives the number of the refusal, or 0.
-fn fetch(register: &mut Register<'_, Name>, letter: u8) -> u8 {
-    match register.fetch(letter) {
-        Ok(line) => {
-            let _ = line.into_parts();
-            0
-        }
-        Err(why) => u8::from(why),
-    }
+/// Fetches the line of the shelf, or gives the number of the refusal.
+fn fetch(register: &mut Register<'_>, letter: u8) -> Result<(), u8> {
+    let _ = register.fetch(letter)?.into_parts();
+    Ok(())
 }
 
 #[test]
 fn sixty_four_lines_are_given(rt: HostRuntime) -> Result<(), Fail> {
     let mut nodes = [Node::default(); 4];
-    let mut register: Register<'_, Name> = Register::new(&mut nodes, 10);
+    let mut register = Register::new(&mut nodes, 10);
     for place in 0..64u32 {
         assert_eq!(rt; open_line(&mut register)?, (place, 10 + place));
     }
@@ -47,11 +40,11 @@ fn sixty_four_lines_are_given(rt: HostRuntime) -> Result<(), Fail> {
 #[test]
 fn serials_end(rt: HostRuntime) -> Result<(), Fail> {
     let mut nodes = [Node::default(); 4];
-    let mut register: Register<'_, Name> = Register::new(&mut nodes, 4294967294);
+    let mut register = Register::new(&mut nodes, 4294967294);
     assert_eq!(rt; open_line(&mut register)?, (0, 4294967294));
     assert_eq!(rt; open_line(&mut register), Err(Refusal::SerialsExhausted));
     let mut others = [Node::default(); 4];
-    let mut register: Register<'_, Name> = Register::new(&mut others, 4294967295);
+    let mut register = Register::new(&mut others, 4294967295);
     assert_eq!(rt; open_line(&mut register), Err(Refusal::SerialsExhausted));
     Ok(())
 }
@@ -59,20 +52,28 @@ fn serials_end(rt: HostRuntime) -> Result<(), Fail> {
 #[test]
 fn handles_fit_one_line_in_one_state(rt: HostRuntime) -> Result<(), Fail> {
     let mut nodes = [Node::default(); 4];
-    let mut register: Register<'_, Name> = Register::new(&mut nodes, 1);
+    let mut register = Register::new(&mut nodes, 1);
     assert_eq!(rt; open_line(&mut register)?, (0, 1));
-    assert_eq!(rt; stow(&mut register, 0, 2, b'A'), 1, "another serial");
-    assert_eq!(rt; stow(&mut register, 1, 1, b'A'), 1, "another place");
-    assert_eq!(rt; stow(&mut register, 64, 1, b'A'), 1, "no place");
-    assert_eq!(rt; stow(&mut register, 0, 1, b'@'), 12, "the byte before A");
-    assert_eq!(rt; stow(&mut register, 0, 1, b'['), 12, "the byte after Z");
-    assert_eq!(rt; stow(&mut register, 0, 1, b'Z'), 0);
-    assert_eq!(rt; stow(&mut register, 0, 1, b'A'), 1, "stowed already");
+    assert_eq!(rt; stow(&mut register, 0, 2, b'A'), Err(1), "another serial");
+    assert_eq!(rt; stow(&mut register, 1, 1, b'A'), Err(1), "another place");
+    assert_eq!(rt; stow(&mut register, 64, 1, b'A'), Err(1), "no place");
+    assert_eq!(rt;
+        stow(&mut register, 0, 1, b'@'),
+        Err(12),
+        "the byte before A"
+    );
+    assert_eq!(rt;
+        stow(&mut register, 0, 1, b'['),
+        Err(12),
+        "the byte after Z"
+    );
+    assert_eq!(rt; stow(&mut register, 0, 1, b'Z'), Ok(()));
+    assert_eq!(rt; stow(&mut register, 0, 1, b'A'), Err(1), "stowed already");
     assert_eq!(rt; open_line(&mut register)?, (1, 2));
-    assert_eq!(rt; stow(&mut register, 1, 2, b'Z'), 13);
-    assert_eq!(rt; fetch(&mut register, b'z'), 12);
-    assert_eq!(rt; fetch(&mut register, b'A'), 14);
-    assert_eq!(rt; fetch(&mut register, b'Z'), 0);
-    assert_eq!(rt; fetch(&mut register, b'Z'), 14);
+    assert_eq!(rt; stow(&mut register, 1, 2, b'Z'), Err(13));
+    assert_eq!(rt; fetch(&mut register, b'z'), Err(12));
+    assert_eq!(rt; fetch(&mut register, b'A'), Err(14));
+    assert_eq!(rt; fetch(&mut register, b'Z'), Ok(()));
+    assert_eq!(rt; fetch(&mut register, b'Z'), Err(14));
     Ok(())
 }

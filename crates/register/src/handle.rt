@@ -6,20 +6,13 @@ ghost use Rattle.std.specs.Prelude.{◌≡◌};
 use crate::refusal::Refusal;
 use std::marker::PhantomData;
 
-/// The serial of a spent handle: no line ever has it. A handle is two plain numbers, so that nothing else can mark it.
+/// The serial of a spent handle: no line ever has it. A handle is two plain numbers, so only one of them can mark it as spent.
 pub const SPENT: u32 = u32::MAX;
-
-/// The numbers of a handle: a place of the table and a serial. They may be copied, and may be those of no line.
-#[derive(Clone, Copy)]
-pub struct Parts {
-    pub place: u32,
-    pub serial: u32,
-}
 
 /// The handle of a line that is in the state `S`.
 pub struct Handle<S> {
-    pub(crate) place: u32,
-    pub(crate) serial: u32,
+    place: u32,
+    serial: u32,
     state: PhantomData<S>,
 }
 
@@ -48,7 +41,7 @@ impl<S> Drop for Handle<S> {
 }
 
 impl<S> Handle<S> {
-    /// The handle of these two numbers, whether or not a line has it.
+    /// The handle of these two numbers, whether or not a line has it. A `From` of a pair would not say which is which.
     pub fn from_parts(place: u32, serial: u32) -> Handle<S>
         ensures place { result.place ≡ place }
         ensures serial { result.serial ≡ serial }

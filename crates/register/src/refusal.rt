@@ -2,9 +2,7 @@
 
 ghost use Rattle.std.specs.Prelude.{◌≡◌};
 ghost use Rattle.register.specs.Refusals.{number_of};
-ghost use Rattle.register.specs.declared.refusal.Refusal.TheVariants.{NameBroken, ReadingOutOfRange};
 
-use kinds::{NotAName, OutOfRange};
 use thiserror::Error;
 
 #[derive(Clone, Copy, PartialEq, Eq, Debug, Error)]
@@ -45,31 +43,16 @@ pub enum Refusal {
     Unreadable = 18,
     #[error("the command does not belong inside, or outside, a sitting")]
     OutOfPlace = 19,
+    /// A report line does not fit.
     #[error("the report does not fit")]
     ReportFull = 20,
 }
 
-/// The number by which callers know a refusal.
+/// The number by which callers know a refusal: an enum's number has no `From` of its own, so `as` gives it.
 impl From<Refusal> for u8 {
     ghost from_gives = { λ why number. number ≡ number_of why };
 
     fn from(why: Refusal) -> u8 {
         why as u8
-    }
-}
-
-impl From<NotAName> for Refusal {
-    ghost from_gives = { λ _ why. why ≡ NameBroken };
-
-    fn from(_: NotAName) -> Refusal {
-        Refusal::NameBroken
-    }
-}
-
-impl From<OutOfRange> for Refusal {
-    ghost from_gives = { λ _ why. why ≡ ReadingOutOfRange };
-
-    fn from(_: OutOfRange) -> Refusal {
-        Refusal::ReadingOutOfRange
     }
 }

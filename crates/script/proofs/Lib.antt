@@ -2,10 +2,6 @@ pub mod Cuts
 pub mod Digits
 pub mod Lexing
 pub mod Readings
+mod Fitting
 mod Running
-mod Saying
 mod Fronts
-mod Carrying
-mod Placing
-mod Turning
-mod Starting

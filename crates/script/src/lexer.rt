@@ -10,7 +10,7 @@ use std::str;
 /// The most digits of a number.
 const MAX_DIGITS: usize = 18;
 
-/// A part of the script, and where it begins there.
+/// A part of the bytes that are read, and where it begins there.
 #[derive(Clone, Copy, Debug, PartialEq, Eq)]
 pub struct Part<'s> {
     pub place: usize,
@@ -88,8 +88,8 @@ impl<'s> From<Part<'s>> for Field<'s> {
     }
 }
 
-/// Reads the fields of a line. `script` is the script up to the line's end, and `next` the place of the next field,
-/// which is past the end once the last field is given.
+/// Reads the fields of a line. `script` is what was given up to the line's end, and `next` the place of the next field,
+/// which is past the end once the last field is given, where `get` finds nothing.
 #[derive(Drop)]
 pub struct Lexer<'s> {
     script: &'s [u8],
@@ -112,7 +112,7 @@ impl<'s> Lexer<'s> {
     }
 
     /// The next part of the line, up to a tab or to the line's end, or none after the last.
-    /// A `split` at the tabs would not tell the places in the script.
+    /// A `split` at the tabs would not tell the places in the bytes that are read.
     fn part(&self) -> Option<Part<'s>>
         ensures none { IsNone result ↔ (length self.now.script.now < self.now.next) }
         ensures part { IfSome result (λ part. IsNextPart self.now part) }

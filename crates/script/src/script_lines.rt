@@ -6,7 +6,8 @@ ghost use Rattle.script.specs.Lines.{lines_of};
 
 use crate::lines::line_end;
 
-/// Gives the lines of a script without their line feeds, first to last.
+/// Gives the lines of a script without their line feeds, first to last. A `split` would give one more, an empty one, behind a
+/// last line feed.
 #[derive(Drop)]
 pub(crate) struct ScriptLines<'s> {
     rest: &'s [u8],
