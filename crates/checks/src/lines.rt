@@ -1,16 +1,17 @@
 //! Lines of a register: places, serials, handles.
 
+use kinds::Name;
 use pool::Node;
 use register::{Line, Refusal, Refused, Register};
 use std::test::Fail;
 
 /// Opens a line and gives its handle's numbers.
-fn open_line(register: &mut Register<'_>) -> Result<(u32, u32), Refusal> {
+fn open_line(register: &mut Register<'_, Name>) -> Result<(u32, u32), Refusal> {
     register.open_line().map(Line::into_parts)
 }
 
 /// Stows the line of this handle, or gives the number of the refusal.
-fn stow(register: &mut Register<'_>, place: u32, serial: u32, letter: u8) -> Result<(), u8> {
+fn stow(register: &mut Register<'_, Name>, place: u32, serial: u32, letter: u8) -> Result<(), u8> {
     register
         .stow(Line::from_parts(place, serial), letter)
         .map_err(|Refused { handle, why }| {
@@ -20,7 +21,7 @@ fn stow(register: &mut Register<'_>, place: u32, serial: u32, letter: u8) -> Res
 }
 
 /// Fetches the line of the shelf, or gives the number of the refusal.
-fn fetch(register: &mut Register<'_>, letter: u8) -> Result<(), u8> {
+fn fetch(register: &mut Register<'_, Name>, letter: u8) -> Result<(), u8> {
     let _ = register.fetch(letter)?.into_parts();
     Ok(())
 }
@@ -28,7 +29,7 @@ fn fetch(register: &mut Register<'_>, letter: u8) -> Result<(), u8> {
 #[test]
 fn sixty_four_lines_are_given(rt: HostRuntime) -> Result<(), Fail> {
     let mut nodes = [Node::default(); 4];
-    let mut register = Register::new(&mut nodes, 10);
+    let mut register: Register<'_, Name> = Register::new(&mut nodes, 10);
     for place in 0..64u32 {
         assert_eq!(rt; open_line(&mut register)?, (place, 10 + place));
     }
@@ -40,11 +41,11 @@ fn sixty_four_lines_are_given(rt: HostRuntime) -> Result<(), Fail> {
 #[test]
 fn serials_end(rt: HostRuntime) -> Result<(), Fail> {
     let mut nodes = [Node::default(); 4];
-    let mut register = Register::new(&mut nodes, 4294967294);
+    let mut register: Register<'_, Name> = Register::new(&mut nodes, 4294967294);
     assert_eq!(rt; open_line(&mut register)?, (0, 4294967294));
     assert_eq!(rt; open_line(&mut register), Err(Refusal::SerialsExhausted));
     let mut others = [Node::default(); 4];
-    let mut register = Register::new(&mut others, 4294967295);
+    let mut register: Register<'_, Name> = Register::new(&mut others, 4294967295);
     assert_eq!(rt; open_line(&mut register), Err(Refusal::SerialsExhausted));
     Ok(())
 }
@@ -52,7 +53,7 @@ fn serials_end(rt: HostRuntime) -> Result<(), Fail> {
 #[test]
 fn handles_fit_one_line_in_one_state(rt: HostRuntime) -> Result<(), Fail> {
     let mut nodes = [Node::default(); 4];
-    let mut register = Register::new(&mut nodes, 1);
+    let mut register: Register<'_, Name> = Register::new(&mut nodes, 1);
     assert_eq!(rt; open_line(&mut register)?, (0, 1));
     assert_eq!(rt; stow(&mut register, 0, 2, b'A'), Err(1), "another serial");
     assert_eq!(rt; stow(&mut register, 1, 1, b'A'), Err(1), "another place");

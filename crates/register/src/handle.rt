@@ -9,6 +9,13 @@ use std::marker::PhantomData;
 /// The serial of a spent handle: no line ever has it. A handle is two plain numbers, so only one of them can mark it as spent.
 pub const SPENT: u32 = u32::MAX;
 
+/// The numbers of a handle: a place of the table and a serial. They may be copied, and may be those of no line.
+#[derive(Clone, Copy)]
+pub struct Parts {
+    pub place: u32,
+    pub serial: u32,
+}
+
 /// The handle of a line that is in the state `S`.
 pub struct Handle<S> {
     place: u32,
@@ -83,4 +90,15 @@ impl<S> Handle<S> {
 pub struct Refused<H> {
     pub handle: H,
     pub why: Refusal,
+}
+
+/// Why a call was declined, where the caller is done with the handle too.
+impl<S> From<Refused<Handle<S>>> for Refusal {
+    ghost from_gives = { λ refused why. why ≡ refused.why };
+
+    fn from(refused: Refused<Handle<S>>) -> Refusal {
+        let Refused { handle, why } = refused;
+        let _ = handle.into_parts();
+        why
+    }
 }

@@ -2,14 +2,22 @@
 
 #![tactic(auto)]
 
+mod entries;
 mod handle;
 mod lines;
 mod questions;
 mod refusal;
 mod register;
+mod run;
+mod sheet;
+mod sittings;
 mod table;
+mod worked;
 
-pub use handle::{Handle, InSitting, Line, Refused, Resting, Sitting};
+pub use entries::Change;
+pub use handle::{Handle, InSitting, Line, Parts, Refused, Resting, Sitting};
 pub use questions::Tally;
 pub use refusal::Refusal;
 pub use register::Register;
+pub use run::{Action, Answer, Call, Question, Reply, run_calls};
+pub use worked::worked_examples_hold;

@@ -2,7 +2,9 @@
 
 ghost use Rattle.std.specs.Prelude.{◌≡◌};
 ghost use Rattle.register.specs.Refusals.{number_of};
+ghost use Rattle.register.specs.declared.refusal.Refusal.TheVariants.{NameBroken, ReadingOutOfRange};
 
+use kinds::{NotAName, OutOfRange};
 use thiserror::Error;
 
 #[derive(Clone, Copy, PartialEq, Eq, Debug, Error)]
@@ -54,5 +56,21 @@ impl From<Refusal> for u8 {
 
     fn from(why: Refusal) -> u8 {
         why as u8
+    }
+}
+
+impl From<NotAName> for Refusal {
+    ghost from_gives = { λ _ why. why ≡ NameBroken };
+
+    fn from(_: NotAName) -> Refusal {
+        Refusal::NameBroken
+    }
+}
+
+impl From<OutOfRange> for Refusal {
+    ghost from_gives = { λ _ why. why ≡ ReadingOutOfRange };
+
+    fn from(_: OutOfRange) -> Refusal {
+        Refusal::ReadingOutOfRange
     }
 }

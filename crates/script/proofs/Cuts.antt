@@ -7,7 +7,7 @@ use Rattle.std.specs.List.{prefix_len}
 use Rattle.script.specs.Lines.{on_first, lines_of}
 use Rattle.script.specs.Fields.{fields_of, fields_from}
 
--- how many bytes stand before the first byte that is this one
+-- how many bytes stand before the first that is this one
 abbrev pub before : ℕ → List ℕ → ℕ
 before stop bytes = prefix_len (λ byte. not (byte == stop)) bytes
 

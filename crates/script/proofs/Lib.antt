@@ -2,6 +2,10 @@ pub mod Cuts
 pub mod Digits
 pub mod Lexing
 pub mod Readings
-mod Fitting
 mod Running
+mod Saying
 mod Fronts
+mod Carrying
+mod Placing
+mod Turning
+mod Starting

@@ -3,5 +3,8 @@ pub mod Fields
 pub mod Numerals
 pub mod Commands
 pub mod Answers
+pub mod Does
 pub mod Runs
+pub mod Standings
+pub mod Reports
 pub mod Scripts

@@ -1,47 +1,72 @@
--- What a line of the script does in a register, and how it is answered.
-use Rattle.std.specs.Prelude.{ℕ, zero, suc, ◌+◌, List, Some, None, Ok, Err, Option, Result}
-use Rattle.register.specs.Lines.{opened, stowed, fetched, retired}
-use Rattle.register.specs.Questions.{tallied}
-use Rattle.register.specs.Shown.{Shown}
+-- What a line of the script does in a register and how it is answered, and how a run gives everything up at its end.
+use Rattle.std.specs.Prelude.{◌≡◌, ℕ, zero, suc, ◌+◌, List, [], ◌∷◌, Some, None, Option, Err}
+use Rattle.kinds.specs.Lexical.{by_words}
+use Rattle.kinds.specs.declared.name.Name.{Name}
+use Rattle.register.specs.Calls as call
+use Rattle.register.specs.Calls.{Call, done, handed, refused}
+use Rattle.register.specs.declared.handle.Parts.{Parts as Handle}
+use Rattle.register.specs.Contents.{Names, names}
+use Rattle.register.specs.Runs.{Runs}
+use Rattle.register.specs.Shown.{Shown, newly_made}
 use Rattle.register.specs.declared.refusal.Refusal.{Refusal}
 use Rattle.register.specs.declared.refusal.Refusal.TheVariants.{Unreadable}
-use Rattle.script.specs.Answers.{Answer, answer_to}
-use Rattle.script.specs.Commands.{Request, opens, retires, tallies, request_of}
-use Rattle.script.specs.declared.answer.Reply.TheVariants.{Counted}
+use Rattle.script.specs.Commands.{Request, request_of}
+use Rattle.script.specs.Does.{Does, Seat}
+use Rattle.script.specs.Answers.{Answer}
 
--- what follows a call, by its answer, in the state that it leaves
-abbrev pub next : {A E B : Type 0} → Result A E → Shown → (A → Shown → B) → (E → Shown → B) → B
-next (Ok value) s accepted declined = accepted value s
-next (Err why) s accepted declined = declined why s
+-- the runner's register is made for the order of names by their bytes
+abbrev pub forward : Names Name
+forward = names (λ name. name.words) (λ words. record { words = words }) (λ a b. by_words a.words b.words) (λ given. given) (λ key. key)
 
--- a line is opened and stowed on the shelf; one whose stowing is refused is retired
-abbrev pub opened_on : Shown → ℕ → Result (Unit {0}) Refusal × Shown
-opened_on s shelf =
-    next (opened s).0 (opened s).1
-    (λ line s'. next (stowed s' line shelf).0 (stowed s' line shelf).1
-    (λ _ s''. (Ok tt, s''))
-    (λ refused s''. (Err refused.why, (retired s'' refused.handle).1)))
-    (λ why s'. (Err why, s'))
+-- where a run stands: what its register shows, and the open sitting, if any
+pub record Standing : Type 0 where
+  pub shown : Shown
+  pub seat : Option Seat
 
--- the line of the shelf is fetched and retired
-abbrev pub retired_on : Shown → ℕ → Result (Unit {0}) Refusal × Shown
-retired_on s shelf =
-    next (fetched s shelf).0 (fetched s shelf).1
-    (λ line s'. (Ok tt, (retired s' line).1))
-    (λ why s'. (Err why, s'))
+-- a run begins in a register newly made, outside a sitting
+abbrev pub beginning : ℕ → ℕ → Standing
+beginning nodes first = record { shown = newly_made nodes first; seat = None }
 
--- what a request does; a line that asks for nothing is unreadable
-abbrev pub carried_out : Shown → Option Request → Answer × Shown
-carried_out s None = (Err Unreadable, s)
-carried_out s (Some (opens shelf)) = (answer_to (opened_on s shelf).0, (opened_on s shelf).1)
-carried_out s (Some (retires shelf)) = (answer_to (retired_on s shelf).0, (retired_on s shelf).1)
-carried_out s (Some tallies) = (Ok (Counted (tallied s)), s)
+-- The request was carried out: what it does takes what is shown before to what is shown after.
+pub record Carried (before : Standing) (request : Request) (answer : Answer) (after : Standing) : Type 0 where
+  pub calls : List (Call × call.Answer)
+  pub does : Does before.seat request calls answer after.seat
+  pub runs : Runs forward before.shown calls after.shown
 
--- what the fields of a line do
-abbrev pub answered : Shown → List (List ℕ) → Answer × Shown
-answered s fields = carried_out s (request_of fields)
+-- a line that asks for nothing is unreadable, and changes nothing
+abbrev pub AnsweredBy : Option Request → Standing → Answer → Standing → Type 0
+AnsweredBy None s answer s' = (answer ≡ Err Unreadable) × (s' ≡ s)
+AnsweredBy (Some request) s answer s' = Carried s request answer s'
 
--- the lines of the first shelves, counted from A, are retired
-unfoldable pub cleared : ℕ → Shown → Shown
-cleared zero s = s
-cleared (suc shelves) s = (retired_on (cleared shelves s) (65 + shelves)).1
+-- A line of these fields is answered so, and takes the run from s to s'.
+abbrev pub Answered : Standing → List (List ℕ) → Answer → Standing → Type 0
+Answered s fields answer s' = AnsweredBy (request_of fields) s answer s'
+
+-- an open sitting is abandoned, and its line goes back on its shelf
+abbrev pub leaving : Option Seat → List (Call × call.Answer)
+leaving None = []
+leaving (Some seat) = (call.abandons seat.handle, done) ∷ (call.stows seat.handle seat.shelf, done) ∷ []
+
+abbrev pub Left : Standing → Shown → Type 0
+Left s s' = Runs forward s.shown (leaving s.seat) s'
+
+-- the line that lies on a shelf is fetched and retired
+pub data Clears (shelf : ℕ) : List (Call × call.Answer) → Type 0 where
+  clear : (line : Handle) → Clears shelf ((call.fetches shelf, handed line) ∷ (call.retires line, done) ∷ [])
+  empty : (why : Refusal) → Clears shelf ((call.fetches shelf, refused why) ∷ [])
+
+abbrev pub ShelfCleared : ℕ → Shown → Shown → Type 0
+ShelfCleared shelf s s' = (calls : List (Call × call.Answer)) × Clears shelf calls × Runs forward s calls s'
+
+-- the first shelves, counted from A, are cleared one after another
+unfoldable pub Cleared : ℕ → Shown → Shown → Type 0
+Cleared zero s s' = s ≡ s'
+Cleared (suc shelves) s s' = (t : Shown) × Cleared shelves s t × ShelfCleared (65 + shelves) t s'
+
+-- A run that ends in s leaves the sitting, clears the 26 shelves, and so many nodes are then in use.
+pub record Ended (s : Standing) (nodes : ℕ) : Type 0 where
+  pub between : Shown
+  pub left : Left s between
+  pub after : Shown
+  pub cleared : Cleared 26 between after
+  pub used : nodes ≡ after.used

@@ -7,6 +7,8 @@ mod lexer;
 mod lines;
 mod runner;
 mod script_lines;
+mod shelves;
+mod sitting;
 
 pub use command::{Command, read_command};
 pub use lexer::{Field, Lexer, Part};

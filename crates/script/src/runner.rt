@@ -1,19 +1,26 @@
 //! Runs a script in a register of its own.
 
-ghost use Rattle.std.specs.Prelude.{◌≡◌, ◌+◌, ◌<◌, ◌≤◌, min, true, length, drop, OnOk, MatchResult};
-ghost use Rattle.register.specs.Lines.{at_rest, retired};
-ghost use Rattle.register.specs.Shown.{shown, newly_made};
+ghost use Rattle.std.specs.Prelude.{◌≡◌, ℕ, ◌<◌, ◌≤◌, min, List, length, drop, IfOk, Some, None, MatchResult};
+ghost use Rattle.register.specs.Registers.{ShownBy};
+ghost use Rattle.register.specs.Shown.{Shown};
+ghost use Rattle.register.specs.declared.refusal.Refusal.TheVariants.{ReportFull};
 ghost use Rattle.script.specs.Fields.{left};
-ghost use Rattle.report.specs.Report.{KeepsRoom, LineAdded, LineRefused, used};
-ghost use Rattle.script.specs.Runs.{opened_on, retired_on, answered, cleared};
-ghost use Rattle.script.specs.Scripts.{refusals, answer_line, report_of, RanLines, Finished, TooLong, Reported};
+ghost use Rattle.report.specs.Report.{KeepsRoom, LineAdded, LineRefused, capacity, used};
+ghost use Rattle.script.specs.Commands.{requested};
+ghost use Rattle.script.specs.Reports.{answer_line, refusals};
+ghost use Rattle.script.specs.Runs.{Answered, Carried, Ended, Standing, beginning, forward};
+ghost use Rattle.script.specs.Standings.{Leads, Ready, Stands, standing};
+ghost use Rattle.script.specs.Scripts.{RanLine, RanLines, Finished, TooLong, Reported};
 
-use crate::answer::{Reply, write_answer};
+use crate::answer::{Reply, answer_to, write_answer};
 use crate::command::{Command, read_command};
 use crate::lexer::Lexer;
 use crate::script_lines::ScriptLines;
+use crate::shelves::{as_of_on, branch_on, clear, open_on, retire_on, total_on};
+use crate::sitting::{OpenSitting, abandon_sitting, after_commit, begin_on, commit_sitting};
+use kinds::Name;
 use pool::Node;
-use register::{Line, Refusal, Refused, Register};
+use register::{Refusal, Register};
 use report::{Full, Piece, Report};
 use thiserror::Error;
 
@@ -31,118 +38,189 @@ pub struct Stopped {
     pub why: Refusal,
 }
 
-/// Retires a line that is at rest.
-fn end_line(register: &mut Register<'_>, line: Line)
-    requires { at_rest (shown register.old) line ≡ true }
-    ensures { shown register.new ≡ (retired (shown register.old) line).1 }
+/// Carries out a command outside a sitting.
+fn answer_outside(
+    register: &mut Register<'_, Name>,
+    command: Command<'_>,
+) -> (Result<Reply, Refusal>, Option<OpenSitting>)
+    requires { Ready register.old None }
+    ensures { Leads register.old None register.new result.1 (λ s s'. Carried s (requested command.entry) result.0 s') }
 {
-    register.retire(line).unwrap();
-}
-
-/// Opens a line and stows it on the shelf. A line whose stowing is refused is retired.
-fn open_on(register: &mut Register<'_>, shelf: u8) -> Result<(), Refusal>
-    ensures answer { result ≡ (opened_on (shown register.old) shelf).0 }
-    ensures after { shown register.new ≡ (opened_on (shown register.old) shelf).1 }
-{
-    let line = register.open_line()?;
-    if let Err(Refused { handle, why }) = register.stow(line, shelf) {
-        end_line(register, handle);
-        return Err(why);
+    match command {
+        Command::Open { shelf } => (answer_to(open_on(register, shelf)), None),
+        Command::Branch { from, to } => (answer_to(branch_on(register, from, to)), None),
+        Command::Begin { shelf, recorded } => match begin_on(register, shelf, recorded) {
+            Ok(seat) => (Ok(Reply::Done), Some(seat)),
+            Err(why) => (Err(why), None),
+        },
+        Command::AsOf {
+            shelf,
+            recorded,
+            name,
+            measured,
+        } => (as_of_on(register, shelf, recorded, name, measured), None),
+        Command::Total {
+            shelf,
+            recorded,
+            name,
+            from,
+            to,
+        } => (total_on(register, shelf, recorded, name, from, to), None),
+        Command::Retire { shelf } => (answer_to(retire_on(register, shelf)), None),
+        Command::Tally => (Ok(Reply::Counted(register.tally())), None),
+        _ => (Err(Refusal::OutOfPlace), None),
     }
-    Ok(())
 }
 
-/// Retires the line of the shelf.
-fn retire_on(register: &mut Register<'_>, shelf: u8) -> Result<(), Refusal>
-    ensures answer { result ≡ (retired_on (shown register.old) shelf).0 }
-    ensures after { shown register.new ≡ (retired_on (shown register.old) shelf).1 }
+/// Carries out a command inside the open sitting.
+fn answer_inside(
+    register: &mut Register<'_, Name>,
+    seat: OpenSitting,
+    command: Command<'_>,
+) -> (Result<Reply, Refusal>, Option<OpenSitting>)
+    requires { Ready register.old (Some seat) }
+    ensures { Leads register.old (Some seat) register.new result.1 (λ s s'. Carried s (requested command.entry) result.0 s') }
 {
-    let line = register.fetch(shelf)?;
-    end_line(register, line);
-    Ok(())
+    match command {
+        Command::Record {
+            name,
+            measured,
+            reading,
+        } => {
+            let entry = register.record(&seat.sitting, name, measured, reading);
+            (answer_to(entry), Some(seat))
+        }
+        Command::Correct {
+            name,
+            measured,
+            reading,
+        } => {
+            let entry = register.correct(&seat.sitting, name, measured, reading);
+            (answer_to(entry), Some(seat))
+        }
+        Command::Withdraw { name, measured } => {
+            let entry = register.withdraw(&seat.sitting, name, measured);
+            (answer_to(entry), Some(seat))
+        }
+        Command::Commit => after_commit(commit_sitting(register, seat)),
+        Command::Abandon => {
+            abandon_sitting(register, seat);
+            (Ok(Reply::Done), None)
+        }
+        _ => (Err(Refusal::OutOfPlace), Some(seat)),
+    }
 }
 
 /// Carries out the command of a line.
-fn answer(register: &mut Register<'_>, fields: Lexer<'_>) -> Result<Reply, Refusal>
-    ensures answer { result ≡ (answered (shown register.old) (left fields.entry)).0 }
-    ensures after { shown register.new ≡ (answered (shown register.old) (left fields.entry)).1 }
+fn answer(
+    register: &mut Register<'_, Name>,
+    seat: Option<OpenSitting>,
+    fields: Lexer<'_>,
+) -> (Result<Reply, Refusal>, Option<OpenSitting>)
+    requires { Ready register.old seat }
+    ensures { Leads register.old seat register.new result.1 (λ s s'. Answered s (left fields.entry) result.0 s') }
 {
-    match read_command(fields).ok_or(Refusal::Unreadable)? {
-        Command::Open { shelf } => open_on(register, shelf)?,
-        Command::Retire { shelf } => retire_on(register, shelf)?,
-        Command::Tally => return Ok(Reply::Counted(register.tally())),
+    match read_command(fields) {
+        None => (Err(Refusal::Unreadable), seat),
+        Some(command) => match seat {
+            None => answer_outside(register, command),
+            Some(seat) => answer_inside(register, seat, command),
+        },
     }
-    Ok(Reply::Done)
 }
 
-/// Retires the lines of all shelves, and gives how many nodes are then in use.
-fn clear(register: &mut Register<'_>) -> u32
-    ensures after { shown register.new ≡ cleared 26 (shown register.old) }
-    ensures in_use { result ≡ (shown register.new).used }
+/// Abandons an open sitting, and retires the lines of all shelves.
+fn give_everything_up(register: &mut Register<'_, Name>, seat: Option<OpenSitting>)
+    requires { Ready register.old seat }
+    ensures { Leads register.old seat register.new None (λ s s'. Ended s s'.shown.used) }
 {
-    for shelf in b'A'..=b'Z' {
-        let _ = retire_on(register, shelf);
+    match seat {
+        None => {}
+        Some(seat) => abandon_sitting(register, seat),
     }
+    clear(register);
+}
+
+/// The nodes in use.
+fn nodes_in_use(register: &Register<'_, Name>) -> u32
+    ensures { (s : Shown) → ShownBy forward register.now s → result ≡ s.used }
+{
     register.tally().in_use
 }
 
 /// A run of a script: its register, how many lines came so far, and how many of them were refused.
 /// The report is no field of it: with it as a field, a proof knows nothing of the lent bytes after a call.
+/// Nor is the open sitting: a handle is moved by each call that it is for, and nothing is moved out from behind a `&mut`.
 #[derive(Drop)]
 struct Runner<'n> {
-    register: Register<'n>,
+    register: Register<'n, Name>,
     lines: u32,
     refused: u32,
 }
 
 impl Runner<'_> {
-    /// Carries out the line of these fields, and reports it.
-    fn run_line(&mut self, report: &mut Report<'_>, fields: Lexer<'_>) -> Result<(), Full>
-        requires { self.old.refused < 32768 }
+    /// Carries out the line of these fields, and reports it. Gives the sitting that is open then.
+    fn run_line(
+        &mut self,
+        seat: Option<OpenSitting>,
+        report: &mut Report<'_>,
+        fields: Lexer<'_>,
+    ) -> (Result<(), Full>, Option<OpenSitting>)
+        requires few { self.old.refused < 32768 }
+        requires ready { Ready self.old.register seat }
         ensures same { KeepsRoom report.old report.new }
-        ensures after { shown self.new.register ≡ (answered (shown self.old.register) (left fields.entry)).1 }
         ensures counted { self.new.lines ≡ self.old.lines }
-        ensures refused { OnOk result (self.new.refused ≡ self.old.refused + refusals (shown self.old.register) (left fields.entry)) }
-        ensures lined { MatchResult result (λ _. LineAdded report.old (answer_line self.old.lines (shown self.old.register) (left fields.entry)) report.new) (λ _. LineRefused report.old (answer_line self.old.lines (shown self.old.register) (left fields.entry)) report.new) }
+        ensures ran { Leads self.old.register seat self.new.register result.1 (λ s s'. RanLine Answered self.old.lines (left fields.entry) result.0 s s' self.old.refused self.new.refused report.old report.new) }
     {
-        let answer = answer(&mut self.register, fields);
-        write_answer(report, self.lines, answer)?;
+        let (answer, seat) = answer(&mut self.register, seat, fields);
         self.refused += u32::from(answer.is_err());
-        Ok(())
+        (write_answer(report, self.lines, answer), seat)
     }
 
-    /// Carries out the lines of the script and reports each that is not empty, up to the first whose report line does not fit.
-    fn run_lines(&mut self, report: &mut Report<'_>, script: &[u8]) -> Result<(), Full>
+    /// Carries out the lines of the script and reports each that is not empty, up to the first whose report line does not
+    /// fit. Gives the sitting that is open then.
+    fn run_lines(
+        &mut self,
+        report: &mut Report<'_>,
+        script: &[u8],
+    ) -> (Result<(), Full>, Option<OpenSitting>)
         requires short { length script.now ≤ 32768 }
         requires first { (self.old.lines ≡ 0) × (self.old.refused ≡ 0) }
+        requires ready { Ready self.old.register None }
         ensures same { KeepsRoom report.old report.new }
-        ensures ran { used report.old ≡ 0 → RanLines (report_of (shown self.old.register) script.now) result self.new report.new }
+        ensures ran { Leads self.old.register None self.new.register result.1 (λ s s'. used report.old ≡ 0 → RanLines Answered Ended s script.now result.0 self.new s' report.new) }
     {
+        let mut seat = None;
         for line in ScriptLines::new(script) {
             self.lines += 1;
             if line.is_empty() {
                 continue;
             }
-            self.run_line(report, Lexer::new(line, 0, line.len()))?;
+            let (ran, next) = self.run_line(seat, report, Lexer::new(line, 0, line.len()));
+            seat = next;
+            if ran.is_err() {
+                return (ran, seat);
+            }
         }
-        Ok(())
+        (Ok(()), seat)
     }
 
     /// Carries out the script and writes its report, up to the first line that does not fit.
     fn run_whole(&mut self, report: &mut Report<'_>, script: &[u8]) -> Result<(), Full>
         requires short { length script.now ≤ 32768 }
         requires first { (self.old.lines ≡ 0) × (self.old.refused ≡ 0) }
+        requires ready { Ready self.old.register None }
         ensures same { KeepsRoom report.old report.new }
-        ensures finished { used report.old ≡ 0 → Finished (report_of (shown self.old.register) script.now) result report.new }
+        ensures finished { (s : Shown) → Stands self.old.register None s → used report.old ≡ 0 → Finished Answered Ended (standing s None) script.now result report.new }
     {
-        let ran = self.run_lines(report, script);
-        let in_use = clear(&mut self.register);
+        let (ran, seat) = self.run_lines(report, script);
+        give_everything_up(&mut self.register, seat);
         ran?;
         report.line(&[
             Piece::End,
             Piece::from(self.lines),
             Piece::from(self.refused),
-            Piece::from(in_use),
+            Piece::from(nodes_in_use(&self.register)),
         ])
     }
 }
@@ -156,7 +234,7 @@ fn run_script(
 ) -> Result<usize, Stopped>
     requires short { length script.now ≤ 32768 }
     ensures within { MatchResult result (λ n. n ≤ length out.old) (λ stopped. stopped.length ≤ length out.old) }
-    ensures ran { Reported (report_of (newly_made (min (length nodes.old) 65535) first_serial) script.now) result out.old out.new }
+    ensures ran { Reported Answered Ended (beginning (min (length nodes.old) 65535) first_serial) script.now result out.old out.new }
 {
     let mut report = Report::new(out);
     let mut runner = Runner {
@@ -181,7 +259,7 @@ pub fn run(
     ensures within { MatchResult result (λ n. n ≤ length out.old) (λ stopped. stopped.length ≤ length out.old) }
     ensures beyond { drop 65535 nodes.new ≡ drop 65535 nodes.old }
     ensures long { 32768 < length script.now → TooLong result out.old out.new × (nodes.new ≡ nodes.old) }
-    ensures ran { length script.now ≤ 32768 → Reported (report_of (newly_made (min (length nodes.old) 65535) first_serial) script.now) result out.old out.new }
+    ensures ran { length script.now ≤ 32768 → Reported Answered Ended (beginning (min (length nodes.old) 65535) first_serial) script.now result out.old out.new }
 {
     if script.len() > LONGEST_SCRIPT {
         return Err(Stopped {

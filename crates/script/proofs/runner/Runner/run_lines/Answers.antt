@@ -1,42 +1,26 @@
-use Rattle.std.proofs.Common.{◌≡◌, ℕ, ◌<◌, List, ◌∷◌, length, ap, arith, rules}
+use Rattle.std.proofs.Common.{◌≡◌, ℕ, ◌<◌, List, ◌∷◌, length, refl, ap, ◌∙◌, sym, arith, rules}
 use Rattle.std.proofs.lemmas.Grind.{common_steps}
-use Rattle.register.specs.Shown.{shown}
+use Rattle.report.proofs.Writing.{same-then}
 use Rattle.script.specs.Fields.{fields_of, left}
 use Rattle.script.specs.Lines.{lines_of}
-use Rattle.script.specs.Scripts.{report_of}
-use Rattle.report.proofs.Writing.{same-then}
-use Rattle.script.proofs.Running.{lines-le, refusals-le, turn-empty, turn-line, turn-full, turn-none}
+use Rattle.script.specs.declared.script_lines.ScriptLines.{ScriptLines}
+use Rattle.script.proofs.Running.{lines-le, refusals-le}
+use Rattle.script.proofs.Turning.{on-way, turned-cut, turned-empty, turned-line, turned-none}
 use Rattle.script.proofs.runner.Runner.run_lines.Goals as goal
 
 pub loop-line-init : goal.loop-line-init
 loop-line-init c =
-    let few = lines-le c.args.script.now in search rules
-
-pub loop-line-preserved : goal.loop-line-preserved
-loop-line-preserved c =
-    let turn = c.loop-line in
-    let wrote = c.in_ok-run_line.ensures in
-    let step : lines_of turn.line-iterator.rest.now ≡ c.in-Some.line.now ∷ lines_of c.next.new.self.rest.now = search rules in
-    let read : left c.new.result ≡ fields_of c.in-Some.line.now = grind (arith, common_steps) in
-    let some : 0 < length c.in-Some.line.now = search rules in
-    let one = refusals-le (shown turn.self.register) (left c.new.result) in
-    let more = ap (λ (xs : List (List ℕ)). length xs) step in
-    record {
-      counted = omega (arith, wrote.counted);
-      fewer = omega (arith, wrote.counted, wrote.refused);
-      same = same-then turn.invariant.same wrote.same;
-      along = λ empty. rw wrote.counted (turn-line (report_of (shown c.args.self.now.register) c.args.script.now) _ c.in-Some.line.now _ step turn.self.lines turn.self.refused (shown turn.self.register) turn.report (turn.invariant.along empty) c.run_line.new.report some (left c.new.result) read wrote.same.kept c.run_line.new.self.refused (shown c.run_line.new.self.register) wrote.lined wrote.refused wrote.after);
-    }
-
-pub returns-in_err-run_line-clause-ran : goal.returns-in_err-run_line-clause-ran
-returns-in_err-run_line-clause-ran c = λ empty.
-    let turn = c.loop-line in
-    let wrote = c.in_err-run_line.ensures in
-    let step : lines_of turn.line-iterator.rest.now ≡ c.in-Some.line.now ∷ lines_of c.next.new.self.rest.now = search rules in
-    let read : left c.new.result ≡ fields_of c.in-Some.line.now = grind (arith, common_steps) in
-    let some : 0 < length c.in-Some.line.now = search rules in
-    let full = turn-full (report_of (shown c.args.self.now.register) c.args.script.now) _ c.in-Some.line.now _ step turn.self.lines turn.self.refused (shown turn.self.register) turn.report (turn.invariant.along empty) c.run_line.new.report some (left c.new.result) read wrote.same.kept wrote.lined in
-    search rules
+    let few = lines-le c.args.script.now in
+    let made : c.into_iter-line-iterator.result.rest.now ≡ c.args.script.now =
+    ap (λ (lines : ScriptLines). lines.rest.now) c.into_iter-line-iterator.ensures.into_iter_gives ∙ c.new-line-items.ensures in
+    let (lines, refused) = c.requires.first in
+    rw (made, lines, refused) (record {
+      counted = omega (arith, few, c.requires.short);
+      fewer = omega arith;
+      same = record { lent = refl; kept = refl };
+      ready = c.requires.ready;
+      way = on-way c.args.report.now c.args.script.now c.args.self.now.register;
+    })
 
 pub loop-line-preserved-then-is_empty : goal.loop-line-preserved-then-is_empty
 loop-line-preserved-then-is_empty c =
@@ -45,12 +29,47 @@ loop-line-preserved-then-is_empty c =
     let none : length c.in-Some.line.now ≡ 0 = search rules in
     let more = ap (λ (xs : List (List ℕ)). length xs) step in
     record {
-      counted = omega arith;
-      fewer = omega arith;
+      counted = omega (arith, more, turn.invariant.counted);
+      fewer = omega (arith, turn.invariant.fewer);
       same = turn.invariant.same;
-      along = λ empty. turn-empty (report_of (shown c.args.self.now.register) c.args.script.now) _ c.in-Some.line.now _ step turn.self.lines turn.self.refused (shown turn.self.register) turn.report (turn.invariant.along empty) none;
+      ready = turn.invariant.ready;
+      way = turned-empty c.args.self.now.register turn.self.register turn.seat c.args.report.now turn.report c.args.script.now (lines_of turn.line-iterator.rest.now) turn.self.lines turn.self.refused turn.invariant.way
+          c.in-Some.line.now (lines_of c.next.new.self.rest.now) step none;
     }
 
+pub loop-line-preserved : goal.loop-line-preserved
+loop-line-preserved c =
+    let turn = c.loop-line in
+    let wrote = c.run_line-ran.ensures in
+    let step : lines_of turn.line-iterator.rest.now ≡ c.in-Some.line.now ∷ lines_of c.next.new.self.rest.now = search rules in
+    let read : left c.new.result ≡ fields_of c.in-Some.line.now = grind (arith, common_steps) in
+    let some : 0 < length c.in-Some.line.now = search rules in
+    let more = ap (λ (xs : List (List ℕ)). length xs) step in
+    let (s, stands) = turn.invariant.ready in
+    let (s₁, stands₁, ran) = wrote.ran s stands in
+    let one = refusals-le ran.answer in
+    record {
+      counted = omega (arith, more, turn.invariant.counted, wrote.counted);
+      fewer = omega (arith, one, turn.invariant.fewer, wrote.counted, ran.counted);
+      same = same-then turn.invariant.same wrote.same;
+      ready = (s₁, stands₁);
+      way = rw wrote.counted (turned-line c.args.self.now.register turn.self.register turn.seat c.args.report.now turn.report c.args.script.now (lines_of turn.line-iterator.rest.now) turn.self.lines turn.self.refused turn.invariant.way
+          c.in-Some.line.now (lines_of c.next.new.self.rest.now) step some c.run_line-ran.new.report wrote.same.kept (left c.new.result) read c.run_line-ran.new.self.register c.run_line-ran.result.1 c.run_line-ran.result.0 c.run_line-ran.new.self.refused wrote.ran
+          (sym c.is_err.ensures.value ∙ c.if-is_err.false));
+    }
+
+pub returns-then-is_err-clause-ran : goal.returns-then-is_err-clause-ran
+returns-then-is_err-clause-ran c =
+    let turn = c.loop-line in
+    let wrote = c.run_line-ran.ensures in
+    let step : lines_of turn.line-iterator.rest.now ≡ c.in-Some.line.now ∷ lines_of c.next.new.self.rest.now = search rules in
+    let read : left c.new.result ≡ fields_of c.in-Some.line.now = grind (arith, common_steps) in
+    let some : 0 < length c.in-Some.line.now = search rules in
+    turned-cut c.args.self.now.register turn.self.register turn.seat c.args.report.now turn.report c.args.script.now (lines_of turn.line-iterator.rest.now) turn.self.lines turn.self.refused turn.invariant.way
+    c.in-Some.line.now (lines_of c.next.new.self.rest.now) step some c.run_line-ran.new.report wrote.same.kept (left c.new.result) read c.run_line-ran.new.self.register c.run_line-ran.result.1 c.run_line-ran.result.0 c.run_line-ran.new.self.refused wrote.ran
+    c.run_line-ran.new.self (sym c.is_err.ensures.value ∙ c.if-is_err.true)
+
 pub returns-clause-ran : goal.returns-clause-ran
-returns-clause-ran c = λ empty.
-    turn-none _ _ _ (lines_of c.loop-line.line-iterator.rest.now) c.loop-line.self.lines c.loop-line.self.refused (shown c.loop-line.self.register) (search rules) (c.loop-line.invariant.along empty)
+returns-clause-ran c =
+    let turn = c.loop-line in
+    turned-none c.args.self.now.register turn.self.register turn.seat c.args.report.now turn.report c.args.script.now (lines_of turn.line-iterator.rest.now) turn.self _ turn.invariant.way (search rules)

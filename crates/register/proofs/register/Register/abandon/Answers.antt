@@ -1,0 +1,43 @@
+use Rattle.std.proofs.Common.{Some, refl, ◌∙◌}
+use Rattle.register.specs.Tables.{line_of, resting_record}
+use Rattle.register.proofs.Ending.{abandoned, kept-abandoned, seat, sheet-first, unabandoned}
+use Rattle.register.proofs.Keeping.{the_places}
+use Rattle.register.proofs.Telling.{ghosts, never, put-at}
+use Rattle.register.proofs.register.Register.abandon.Goals as goal
+
+pub returns-in_default : goal.returns-in_default
+returns-in_default g c =
+    let self = c.args.self.now in
+    record {
+      told = unabandoned self.pool self.table.lines c.args.sitting.place c.args.sitting.serial (line_of self.table.lines c.args.sitting.place c.args.sitting.serial) refl c.in_default.ensures.0 _ self.next;
+      back = refl;
+      kept = tt;
+      same = λ _. refl;
+    }
+
+pub stand_up-rested-requires : goal.stand_up-rested-requires
+stand_up-rested-requires g c =
+    let self = c.args.self.now in
+    let (xs, k) = the_places self.pool self.table.lines self.kept in
+    (_, _, sheet-first self.pool self.table.lines c.args.sitting.place c.args.sitting.serial (Some c.in-Ok.record) c.in-Ok.ensures.0 _ c.in-Ok.sheet c.in-Ok.ensures.1 xs k)
+
+pub invariant_of-self : goal.invariant_of-self
+invariant_of-self g c =
+    let self = c.args.self.now in
+    let (xs, k) = the_places self.pool self.table.lines self.kept in
+    ghosts c.stand_up-rested.new.pool c.put.new.self.lines _
+    (kept-abandoned self.pool self.table.lines c.args.sitting.place c.args.sitting.serial (Some c.in-Ok.record) c.in-Ok.ensures.0 _ c.in-Ok.sheet c.in-Ok.ensures.1 c.stand_up-rested.new.pool _
+    (put-at self.table.lines _ _ _ _ _ c.put.ensures c.into_parts-place.ensures.place (c.stand_up-rested.ensures.made ∙ (λ i. resting_record ((seat self.pool self.table.lines c.args.sitting.place c.args.sitting.serial (Some c.in-Ok.record) c.in-Ok.ensures.0 _ c.in-Ok.sheet c.in-Ok.ensures.1 xs k).serial-is i) c.in-Ok.record.root))) c.stand_up-rested.ensures.owned xs k)
+
+pub returns : goal.returns
+returns g c =
+    let self = c.args.self.now in
+    let (xs, k) = the_places self.pool self.table.lines self.kept in
+    record {
+      told = abandoned self.pool self.table.lines c.args.sitting.place c.args.sitting.serial (Some c.in-Ok.record) c.in-Ok.ensures.0 _ c.in-Ok.sheet c.in-Ok.ensures.1 c.stand_up-rested.new.pool _
+          (put-at self.table.lines _ _ _ _ _ c.put.ensures c.into_parts-place.ensures.place (c.stand_up-rested.ensures.made ∙ (λ i. resting_record ((seat self.pool self.table.lines c.args.sitting.place c.args.sitting.serial (Some c.in-Ok.record) c.in-Ok.ensures.0 _ c.in-Ok.sheet c.in-Ok.ensures.1 xs k).serial-is i) c.in-Ok.record.root))) c.stand_up-rested.ensures.owned
+          _ self.next c.stand_up-rested.ensures.fewer c.stand_up-rested.ensures.size;
+      back = tt;
+      kept = λ i. record { place = (c.from_parts.ensures.place ∙ c.into_parts-place.ensures.place) i; serial = (c.from_parts.ensures.serial ∙ c.into_parts-place.ensures.serial) i };
+      same = never;
+    }

@@ -1,0 +1,38 @@
+-- What a call on a register tells: whatever the register shows before it, the call is a step from there to what it shows after it.
+use Rattle.std.specs.Prelude.{◌≡◌, Ok, Err, Result}
+use Rattle.register.specs.Calls.{Answer, Call, Handle, Line, Sitting, line_handle, sitting_handle}
+use Rattle.register.specs.Contents.{Names}
+use Rattle.register.specs.Shown.{Shown, Shows}
+use Rattle.register.specs.Steps.{Step}
+use Rattle.register.specs.declared.handle.Refused.{Refused}
+use Rattle.register.specs.declared.register.Register.{Register}
+
+module _ {N : Type 0} {K : Type 0} (𝓝 : Names K) where
+  abbrev pub ShownBy : Register N → Shown → Type 0
+  ShownBy r s = Shows 𝓝 r.pool r.table.lines r.next s
+
+  abbrev pub Tells : Register N → Call → Answer → Register N → Type 0
+  Tells r call a r' = (s : Shown) → ShownBy r s → (s' : Shown) × ShownBy r' s' × Step 𝓝 s call a s'
+
+  -- a question tells of what is shown, and changes nothing
+  abbrev pub Answers : Register N → Call → Answer → Type 0
+  Answers r call a = (s : Shown) → ShownBy r s → Step 𝓝 s call a s
+
+-- a declined call hands the handle back
+abbrev pub HandsBack : {A H : Type 0} → H → Result A (Refused H) → Type 0
+HandsBack handle (Ok value) = Unit {0}
+HandsBack handle (Err e) = e.handle ≡ handle
+
+-- a branching gives the line back, accepted or declined
+abbrev pub GivesBack : Line → Result (Line × Line) (Refused Line) → Type 0
+GivesBack line (Ok lines) = lines.0 ≡ line
+GivesBack line (Err e) = e.handle ≡ line
+
+-- the handle that comes back has the same place and serial
+abbrev pub SameSitting : {E : Type 0} → Handle → Result Sitting E → Type 0
+SameSitting handle (Ok given) = sitting_handle given ≡ handle
+SameSitting handle (Err e) = Unit {0}
+
+abbrev pub SameLine : {E : Type 0} → Handle → Result Line E → Type 0
+SameLine handle (Ok line) = line_handle line ≡ handle
+SameLine handle (Err e) = Unit {0}

@@ -1,0 +1,8 @@
+//! Small histories, registers and trees worked by hand.
+
+ghost use Rattle.register.specs.Worked.{WorkedExamples};
+
+/// The small examples come out as worked by hand.
+pub fn worked_examples_hold()
+    ensures { WorkedExamples }
+{}
