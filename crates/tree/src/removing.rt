@@ -32,6 +32,27 @@ impl First {
             rest: node.right,
         }
     }
+
+    /// The node whose left side gave the first away, over the rest.
+    fn under(self, node: Node) -> Node
+        ensures { result ≡ record node { left = self.rest } }
+    {
+        Node {
+            left: self.rest,
+            ..node
+        }
+    }
+
+    /// The first node over a left side and the rest.
+    fn over(self, left: u16) -> Node
+        ensures { result ≡ record self.node { left = left; right = self.rest } }
+    {
+        Node {
+            left,
+            right: self.rest,
+            ..self.node
+        }
+    }
 }
 
 /// Takes the first node out of the tree of the node n. The owner of n becomes the owner of what the first node
@@ -48,13 +69,7 @@ fn take_first(pool: &mut Pool<'_>, n: u16) -> First
         return First::here(node);
     }
     let lower = take_first(pool, node.left);
-    let rest = balance(
-        pool,
-        Node {
-            left: lower.rest,
-            ..node
-        },
-    );
+    let rest = balance(pool, lower.under(node));
     First {
         node: lower.node,
         rest,
@@ -76,14 +91,7 @@ fn join(pool: &mut Pool<'_>, left: u16, right: u16) -> u16
         return left;
     }
     let first = take_first(pool, right);
-    balance(
-        pool,
-        Node {
-            left,
-            right: first.rest,
-            ..first.node
-        },
-    )
+    balance(pool, first.over(left))
 }
 
 /// Joins the two sides of a node that was taken apart. What its value owned is let go.

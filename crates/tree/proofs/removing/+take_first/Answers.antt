@@ -1,10 +1,8 @@
-use Rattle.std.proofs.Common.{rules, ◌<◌, ◌∙◌, arith}
+use Rattle.std.proofs.Common.{◌<◌, ◌∙◌, arith}
 use Rattle.pool.specs.Sound.{used_of}
 use Rattle.tree.proofs.Removed.{first-here, first-lower, left-removable, low-standing, rest-balanceable}
-use Rattle.tree.proofs.Rotating.{apart-fewer, puts}
+use Rattle.tree.proofs.Rotating.{apart-fewer}
 use Rattle.tree.proofs.Standing.{left-falls, left-lower, standing-height, stood-left}
-use Rattle.tree.proofs.Sides.{worded}
-use Rattle.tree.specs.Rebuild.{balance}
 use Rattle.tree.proofs.removing.+take_first.Goals as goal
 
 pub take_apart-node-requires : goal.take_apart-node-requires
@@ -37,7 +35,7 @@ balance-rest-requires t c =
     let some : 0 < c.take_apart-node.result.left = omega (arith, c.if-node-eq0.false) in
     let used = c.take_first-lower.ensures.used _ (stood-left d.trees _ _ e.owned) in
     record {
-      ready = worded _ c.take_apart-node.result _ _ _ (rest-balanceable _ _ _ c.take_apart-node.result e.owned some _ c.take_first-lower.result.node _ c.take_first-lower.ensures.owned d);
+      ready = rw c.under.ensures (rest-balanceable _ _ _ c.take_apart-node.result e.owned some _ c.take_first-lower.result.node _ c.take_first-lower.ensures.owned d);
       room = omega (arith, fewer, used, d.room, d.balanced.0, e.size, c.take_first-lower.ensures.size);
     }
 
@@ -49,7 +47,7 @@ returns t c =
     let some : 0 < c.take_apart-node.result.left = omega (arith, c.if-node-eq0.false) in
     let used = c.take_first-lower.ensures.used _ (stood-left d.trees _ _ e.owned) in
     record {
-      owned = first-lower _ _ _ c.take_apart-node.result e.owned some _ c.take_first-lower.result.node _ c.take_first-lower.ensures.owned _ _ (puts balance _ _ c.take_apart-node.result _ _ _ _ c.balance-rest.ensures.owned (search rules));
+      owned = first-lower _ _ _ c.take_apart-node.result e.owned some _ c.take_first-lower.result.node _ c.take_first-lower.ensures.owned _ _ (rw c.under.ensures at c.balance-rest.ensures.owned);
       used = λ u carries. omega (arith, fewer, used, standing-height d.trees u carries, left-lower d.trees d.balanced, c.balance-rest.ensures.made.used);
       size = c.balance-rest.ensures.made.size ∙ c.take_first-lower.ensures.size ∙ e.size;
     }

@@ -1,8 +1,5 @@
-use Rattle.std.proofs.Common.{rules, ◌<◌, refl, ◌∙◌, arith}
+use Rattle.std.proofs.Common.{◌<◌, refl, ◌∙◌, arith}
 use Rattle.tree.proofs.Removed.{joined-balanceable, joined-both, joined-left, joined-right, right-goes, second-carries}
-use Rattle.tree.proofs.Rotating.{puts}
-use Rattle.tree.proofs.Sides.{worded}
-use Rattle.tree.specs.Rebuild.{balance}
 use Rattle.tree.proofs.removing.join.Goals as goal
 
 pub returns-then-left-eq0 : goal.returns-then-left-eq0
@@ -21,7 +18,7 @@ balance-requires c =
     let f = c.take_first-first.ensures in
     let some : 0 < c.args.right = omega (arith, c.if-right-eq0.false) in
     record {
-      ready = worded _ c.take_first-first.result.node _ _ _ (joined-balanceable _ _ _ _ c.take_first-first.result.node _ some f.owned c.requires.ready);
+      ready = rw c.over.ensures (joined-balanceable _ _ _ _ c.take_first-first.result.node _ some f.owned c.requires.ready);
       room = omega (arith, f.used c.requires.ready.r (second-carries _ _ _ _ _ _ c.requires.ready.holds), f.size, c.requires.ready.room);
     }
 
@@ -30,7 +27,7 @@ returns c =
     let f = c.take_first-first.ensures in
     let some : 0 < c.args.right = omega (arith, c.if-right-eq0.false) in
     record {
-      owned = joined-both _ _ _ _ c.take_first-first.result.node _ some f.owned (omega (arith, c.if-left-eq0.false)) _ _ (puts balance _ _ c.take_first-first.result.node _ _ _ _ c.balance.ensures.owned (search rules));
+      owned = joined-both _ _ _ _ c.take_first-first.result.node _ some f.owned (omega (arith, c.if-left-eq0.false)) _ _ (rw c.over.ensures at c.balance.ensures.owned);
       used = λ r carries. omega (arith, f.used r carries, c.balance.ensures.made.used);
       within = λ l r hs h. omega (arith, f.used r (second-carries _ _ _ l r hs h), c.balance.ensures.made.used);
       size = c.balance.ensures.made.size ∙ f.size;
