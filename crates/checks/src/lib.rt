@@ -7,4 +7,6 @@ mod lines;
 #[cfg(test)]
 mod names;
 #[cfg(test)]
+mod runs;
+#[cfg(test)]
 mod scripts;

@@ -26,6 +26,7 @@ pub mod Modelling
 pub mod Staging
 pub mod Readable
 pub mod Passing
+pub mod Fronts
 pub mod Reading
 pub mod Following
 pub mod Asking
@@ -39,6 +40,7 @@ pub mod Bounding
 pub mod Accepting
 pub mod Doing
 pub mod Returning
+pub mod Laying
 pub mod Serials
 pub mod Recounting
 pub mod Retelling

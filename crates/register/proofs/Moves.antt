@@ -3,10 +3,10 @@
 use Rattle.std.proofs.Common.{◌≡◌, ℕ, ◌<◌, Bool, true, false, not, List, [], ◌∷◌, length, get_or, set, is_some, Some, None, unwrap_or, sym, refl, ap, ◌∙◌, subst, inl, inr, arith, get_or-set_other, get_or-set_same}
 use Rattle.std.proofs.lemmas.Bool.{cases_eq}
 use Rattle.pool.specs.Held.{Held}
-use Rattle.register.proofs.Runs.{went}
+use Rattle.register.proofs.Runs.{stayed, unrefused, went}
 use Rattle.register.proofs.Shelves.{Unstowed, bare_set, lowest-none, none-lowest, not_some, others-stay, put-there, rests-at, single-free, single-set, single-stowed, sits-at}
 use Rattle.register.proofs.Vacancies.{is_free_lem, lowest-found}
-use Rattle.register.specs.Calls.{Answer, Call, Handle, abandons, asks, begins, branches, commits, done, enters, fetches, handed, opens, retires, stows, tallies}
+use Rattle.register.specs.Calls.{Answer, Call, Handle, abandons, asks, begins, branches, commits, done, enters, fetches, handed, opens, refused, retires, stows, tallies}
 use Rattle.register.specs.Contents.{Names}
 use Rattle.register.specs.Declined.{declined, no_place, no_serial}
 use Rattle.register.specs.Places.{Place, free, is_free, is_resting, is_sitting, is_stowed, live, place_of, resting, sitting, stages_at, stowed}
@@ -216,6 +216,17 @@ module _ {K : Type 0} (𝓝 : Names K) (s s' : Shown) where
                   ∙ elsewhere i apart
             ]);
       }
+
+  -- a shelf from which no line could be fetched is bare
+  pub unfetched : (letter : ℕ) (why : Refusal) → is_letter letter ≡ true → Step 𝓝 s (fetches letter) (refused why) s' → Bare s'.places letter
+  unfetched letter why is step =
+      let shelf = lowest (is_stowed letter) s.places in
+      let empty : Bare s.places letter =
+      elim (is_some shelf) as (λ b. is_some shelf ≡ b → Bare s.places letter) [
+        | true ↦ (λ t. absurd (unrefused 𝓝 s s' (fetches letter) why (rw (is, t) refl) step))
+        | false ↦ (λ t. lowest-none (is_stowed letter) free refl s.places (not_some shelf t))
+      ] refl in
+      subst (λ (z : Shown). Bare z.places letter) (sym (stayed 𝓝 s s' (fetches letter) why step)) empty
 
   -- another line stays at rest
   pub stowed-apart : (line other : Handle) (letter : ℕ) → Step 𝓝 s (stows line letter) done s' → (other.place ≡ line.place → ⊥) → is_resting (at s other) ≡ true → is_resting (at s' other) ≡ true

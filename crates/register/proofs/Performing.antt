@@ -10,7 +10,6 @@ use Rattle.register.proofs.Timed.{names_of}
 use Rattle.register.specs.Calls.{Answer, Call}
 use Rattle.register.specs.Contents.{Names}
 use Rattle.register.specs.Law.{Follows, Ran, Turn, shown_after}
-use Rattle.register.specs.Places.{record_of}
 use Rattle.register.specs.Plain.{CodeAnswer, answer_of, call_of}
 use Rattle.register.specs.Registers.{ShownBy, Tells}
 use Rattle.register.specs.Shown.{Shown, Shows, newly_made}

@@ -32,12 +32,12 @@ module _ {K : Type 0} (𝓝 : Names K) where
   -- ---- one step
 
   module _ (s s' : Shown) where
-    live-changed : (handle : Handle) (stages : Held) (doing : Doing) (after : Place) → Changed 𝓝 s s' handle stages doing after
+    pub live-changed : (handle : Handle) (stages : Held) (doing : Doing) (after : Place) → Changed 𝓝 s s' handle stages doing after
         → live_in s'.places + 1 ≡ live_in s.places + lives after
     live-changed handle stages doing after c =
         omega (arith, ap live_in c.places-are, live-set s.places handle.place after c.stood.within, ap lives c.stood.here)
 
-    live-started : (stages : Held) (a : Answer) → Started 𝓝 s s' stages a → live_in s'.places ≡ live_in s.places + 1
+    pub live-started : (stages : Held) (a : Answer) → Started 𝓝 s s' stages a → live_in s'.places ≡ live_in s.places + 1
     live-started stages a c =
         omega (arith, ap live_in c.places-are, live-set s.places (next_handle s).place (live s.next stages resting) c.within, ap lives c.here)
 
@@ -64,7 +64,8 @@ module _ {K : Type 0} (𝓝 : Names K) where
   live-run s [] f = refl
   live-run s (t ∷ ts) f = omega (arith, live-step s t.after t.call t.answer f.0, live-run t.after ts f.2)
 
-  seen-free : (s : Shown) → Seen 𝓝 s → live_in s.places ≡ 0 → s.used ≡ 0
+  -- where no line is live, no node is in use
+  pub seen-free : (s : Shown) → Seen 𝓝 s → live_in s.places ≡ 0 → s.used ≡ 0
   seen-free s (p, shows) e =
       sym shows.used_is ∙ (memory-accounted p (owners_of s.places) shows.kept.holds).empty (none-live s.places e)
 

@@ -92,8 +92,8 @@ impl<'m, N: NameOrder> Register<'m, N> {
         }
         let name = N::from_name(name);
         let measured = Instant::from(measured);
-        may_enter(&self.pool, sheet, name, measured, change)?;
-        let sheet = change_sheet(&mut self.pool, sheet, name, measured, reading);
+        let card = may_enter(&self.pool, sheet, name, measured, change)?;
+        let sheet = change_sheet(&mut self.pool, sheet, card, name, measured, reading);
         self.table
             .put(sitting.place(), record.seated(recorded, sheet));
         Ok(())

@@ -18,6 +18,6 @@ pub use entries::Change;
 pub use handle::{Handle, InSitting, Line, Parts, Refused, Resting, Sitting};
 pub use questions::Tally;
 pub use refusal::Refusal;
-pub use register::Register;
+pub use register::{MOST_NODES, Register};
 pub use run::{Action, Answer, Call, Question, Reply, run_calls};
 pub use worked::worked_examples_hold;

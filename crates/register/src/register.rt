@@ -8,6 +8,9 @@ use crate::table::Table;
 use pool::Pool;
 use std::marker::PhantomData;
 
+/// The most nodes that a register has.
+pub const MOST_NODES: usize = 65535;
+
 /// A register over lent memory, for the order N of names. Its nodes are held for the lines of its table, and for
 /// nothing else.
 #[derive(Drop)]

@@ -12,7 +12,7 @@ use crate::entries::Change;
 use crate::handle::{Handle, Line, Parts, Refused, Sitting};
 use crate::questions::Tally;
 use crate::refusal::Refusal;
-use crate::register::Register;
+use crate::register::{MOST_NODES, Register};
 use kinds::{Instant, Name, NameOrder, Reading};
 use pool::Node;
 use tree::Total;
@@ -244,9 +244,8 @@ fn turns(calls: &[Call<'_>], answers: &[Answer]) -> usize
     calls.len().min(answers.len())
 }
 
-/// Carries out calls one after another on a register newly made over this memory, and writes their answers.
-/// As many calls are carried out as there is room for answers; their number is given.
-pub fn run_calls<N: NameOrder>(
+/// Carries out calls on a register newly made over this memory, and writes their answers. Gives how many were carried out.
+fn run_over<N: NameOrder>(
     memory: &mut [Node],
     first_serial: u32,
     calls: &[Call<'_>],
@@ -265,4 +264,22 @@ pub fn run_calls<N: NameOrder>(
         };
     }
     most
+}
+
+/// Carries out calls one after another on a register newly made over this memory, and writes their answers.
+/// As many calls are carried out as there is room for answers; their number is given. What lies behind the register's nodes
+/// is not written.
+pub fn run_calls<N: NameOrder>(
+    memory: &mut [Node],
+    first_serial: u32,
+    calls: &[Call<'_>],
+    answers: &mut [Answer],
+) -> usize
+    ensures count { result ≡ min (length calls.now) (length answers.old) }
+    ensures ran { Ran (names N.Key.words N.Key.key N.cmp N.NameOrder.named N.NameOrder.name) (newly_made (min (length memory.old) 65535) first_serial) (map call_of (take result calls.now)) (map answer_of (take result answers.new)) }
+    ensures rest { drop result answers.new ≡ drop result answers.old }
+    ensures beyond { drop 65535 memory.new ≡ drop 65535 memory.old }
+{
+    let size = memory.len().min(MOST_NODES);
+    run_over::<N>(&mut memory[..size], first_serial, calls, answers)
 }

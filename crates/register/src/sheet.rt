@@ -1,6 +1,6 @@
 //! The trees of a sheet and its cards: what an entry finds there, and how it changes them.
 
-ghost use Rattle.std.specs.Prelude.{◌≡◌, ◌+◌, ◌-◌, ◌*◌, ◌≤◌, List, ◌∷◌, length, pos, is_some};
+ghost use Rattle.std.specs.Prelude.{◌≡◌, ◌+◌, ◌-◌, ◌*◌, ◌≤◌, List, ◌∷◌, length, pos, IfOk, is_some};
 ghost use Rattle.std.specs.Result.{result_err};
 ghost use Rattle.pool.specs.Held.{Carries, Held, Holds, held};
 ghost use Rattle.pool.specs.Sound.{memory_of, used_of};
@@ -42,20 +42,21 @@ fn has_reading(pool: &Pool<'_>, card: u16, measured: Instant) -> bool
     find::<Instant, Reading>(pool, card, measured).is_some()
 }
 
-/// Whether an entry may be made on this sheet: not where a tree is too high, a reading is there or is not, or nodes are
-/// short.
+/// The root of the card on which an entry may be made; or a refusal where a tree is too high, a reading is there or is not,
+/// or nodes are short.
 pub(crate) fn may_enter<N: NameOrder>(
     pool: &Pool<'_>,
     sheet: u16,
     name: N,
     measured: Instant,
     change: Change,
-) -> Result<(), Refusal>
+) -> Result<u16, Refusal>
     requires held { (hs : List Held) × Holds pool.now hs }
     requires carried { (t : Tree) × Carries pool.now sheet t × SheetWith Balanced Filed t }
     requires small { length (memory_of pool.now) ≤ 65535 }
     requires within { used_of pool.now ≤ length (memory_of pool.now) }
-    ensures { (t : Tree) → Carries pool.now sheet t → result_err result ≡ entry_refusal (names N.Key.words N.Key.key N.cmp N.NameOrder.named N.NameOrder.name) t name measured change (length (memory_of pool.now) - used_of pool.now) }
+    ensures card { (t : Tree) → Carries pool.now sheet t → IfOk result (λ card. Carries pool.now card (card_tree (names N.Key.words N.Key.key N.cmp N.NameOrder.named N.NameOrder.name) name t)) }
+    ensures declined { (t : Tree) → Carries pool.now sheet t → result_err result ≡ entry_refusal (names N.Key.words N.Key.key N.cmp N.NameOrder.named N.NameOrder.name) t name measured change (length (memory_of pool.now) - used_of pool.now) }
 {
     let card = card_of(pool, sheet, name);
     if stored_height(pool, sheet) > HIGHEST {
@@ -68,7 +69,7 @@ pub(crate) fn may_enter<N: NameOrder>(
     if is_short(pool.available()) {
         return Err(Refusal::NodesShort);
     }
-    Ok(())
+    Ok(card)
 }
 
 /// Puts a reading on a card, or removes the one that is there. The owner of the card becomes the owner of the result.
@@ -95,21 +96,22 @@ fn put_card<N: NameOrder>(pool: &mut Pool<'_>, sheet: u16, name: N, card: u16) -
     insert(pool, sheet, name, Root { link: card })
 }
 
-/// Makes an entry on a sheet. A card that becomes empty takes its name off the sheet. The owner of the sheet becomes the
-/// owner of the result.
+/// Makes an entry on a sheet where the name has this card. A card that becomes empty takes its name off the sheet. The owner
+/// of the sheet becomes the owner of the result.
 pub(crate) fn change_sheet<N: NameOrder>(
     pool: &mut Pool<'_>,
     sheet: u16,
+    old: u16,
     name: N,
     measured: Instant,
     reading: Option<Reading>,
 ) -> u16
+    requires card { (t : Tree) → Carries pool.old sheet t → Carries pool.old old (card_tree (names N.Key.words N.Key.key N.cmp N.NameOrder.named N.NameOrder.name) name t) }
     requires ready { Enterable (names N.Key.words N.Key.key N.cmp N.NameOrder.named N.NameOrder.name) pool.old sheet name }
     ensures owned { (change : Change) (t : Tree) (hs : List Held) → Stands change reading → Holds pool.old (held sheet t ∷ hs) → Holds pool.new (held result (entered_tree (names N.Key.words N.Key.key N.cmp N.NameOrder.named N.NameOrder.name) name measured change t) ∷ hs) }
     ensures used { (t : Tree) → Carries pool.old sheet t → used_of pool.new ≤ used_of pool.old + 3 * height t + 3 * height (card_tree (names N.Key.words N.Key.key N.cmp N.NameOrder.named N.NameOrder.name) name t) + 2 }
     ensures size { length (memory_of pool.new) ≡ length (memory_of pool.old) }
 {
-    let old = card_of(pool, sheet, name);
     pool.retain(old);
     let card = change_card(pool, old, measured, reading);
     if card == 0 {

@@ -4,13 +4,13 @@ use Rattle.std.specs.Option.{option_map}
 use Rattle.std.specs.Result.{IsOk}
 use Rattle.kinds.specs.declared.name.Name.{Name}
 use Rattle.register.proofs.Moves as moves
-use Rattle.register.proofs.Runs.{runs_append, runs_first, runs_keep, runs_more, runs_none, runs_one, runs_over, stayed, unrefused}
+use Rattle.register.proofs.Runs.{runs_append, runs_first, runs_more, runs_none, runs_one, runs_over, stayed, unrefused}
+use Rattle.register.proofs.Splitting.{plainly}
 use Rattle.register.specs.Calls as call
 use Rattle.register.specs.Calls.{Call, counted, done, done_answer, entry_answer, handed, line_handle, refused, sitting_handle}
 use Rattle.register.specs.declared.handle.Parts.{Parts as Handle}
 use Rattle.register.specs.Places.{is_resting}
 use Rattle.register.specs.Registers.{Answers, ShownBy, Tells}
-use Rattle.register.specs.Runs.{Runs}
 use Rattle.register.specs.Shelves.{Bare, Single}
 use Rattle.register.specs.Shown.{Shown, at}
 use Rattle.register.specs.Steps.{Step}
@@ -27,10 +27,11 @@ use Rattle.script.specs.Commands.{Request, abandons, begins, commits, retires, t
 use Rattle.script.specs.Does.{Does, belongs_inside, entry_of}
 use Rattle.script.specs.Does as does
 use Rattle.script.specs.Runs.{Carried, Cleared, Clears, Ended, Left, Standing, clear, empty, forward, leaving}
-use Rattle.script.specs.Standings.{Leads, MayLie, Ready, Resting, RunsBy, Seated, seat_of}
+use Rattle.script.specs.Standings.{AllLaid, Leads, MayLie, Ready, Resting, RunsBy, Seated, seat_of, standing}
 use Rattle.script.specs.Answers.{Answer}
 use Rattle.script.specs.declared.answer.Reply.TheVariants.{Done, Counted}
 use Rattle.script.specs.declared.sitting.OpenSitting.{OpenSitting}
+use Rattle.script.proofs.Handing.{carried-laid, cleared-unused, runs-laid, single-runs}
 
 -- ---- calls one after another
 
@@ -72,15 +73,13 @@ both-then r r₁ r' c d calls runs through =
 pub why-of : (request : Request) (calls : List (Call × call.Answer)) (why given : Refusal) → why ≡ given → Does None request calls (Err given) None → Does None request calls (Err why) None
 why-of request calls why given e does = subst (λ (z : Refusal). Does None request calls (Err z) None) (sym e) does
 
-single-runs : (calls : List (Call × call.Answer)) (s s' : Shown) → Runs forward s calls s' → Single s.places → Single s'.places
-single-runs calls s s' runs single = runs_keep forward (λ t. Single t.places) (moves.single-kept forward) s s' calls runs single
-
 -- a request that leaves no sitting open
 pub carried : (r r' : Register Name) (seat : Option OpenSitting) (request : Request) (calls : List (Call × call.Answer)) (answer : Answer)
     → Does (option_map seat_of seat) request calls answer None → Through r calls r' → Leads r seat r' None (λ s s'. Carried s request answer s')
 carried r r' seat request calls answer does through s stands =
     let (s', shows, runs) = through.leads s stands.shows in
-    (s', record { shows = shows; single = single-runs calls s s' runs stands.single; seated = tt }, record { calls = calls; does = does; runs = runs })
+    let c : Carried (standing s seat) request answer (standing s' None) = record { calls = calls; does = does; runs = runs } in
+    (s', record { shows = shows; single = single-runs calls s s' runs stands.single; seated = tt; laid = carried-laid _ _ _ _ c stands.laid }, c)
 
 -- a request that does not belong here
 pub misplaced : (r : Register Name) (seat : Option OpenSitting) (request : Request) → belongs_inside request ≡ not (is_some (option_map seat_of seat))
@@ -193,20 +192,23 @@ begun r r₁ r₂ shelf recorded line given same fetch begin s stands =
       sits = moves.begun forward s₁ s₂ line recorded f.rests step₂;
       letter = f.letter-is;
       bare = moves.bare-kept forward s₁ s₂ (call.begins line recorded) done refl step₂ shelf f.bare;
+    } in
+    let c : Carried (standing s None) (begins shelf recorded) (Ok Done) (standing s₂ (Some (record { sitting = given; shelf = shelf }))) =
+    record {
+      calls = (call.fetches shelf, handed line) ∷ (call.begins line recorded, done) ∷ [];
+      does =
+          subst (λ (h : Handle). Does None (begins shelf recorded) ((call.fetches shelf, handed line) ∷ (call.begins line recorded, done) ∷ []) (Ok Done) (Some (record { handle = h; shelf = shelf }))) (sym same)
+          (does.begun shelf recorded line);
+      runs = runs_more forward s s₁ s₂ (call.fetches shelf) (handed line) _ r₁.pool r₁.table.lines r₁.next step₁ shows₁ (runs_one forward s₁ s₂ (call.begins line recorded) done r₂.pool r₂.table.lines r₂.next step₂ shows₂);
     } in (
       s₂,
       record {
         shows = shows₂;
         single = moves.single-kept forward s₁ s₂ (call.begins line recorded) done step₂ single₁;
         seated = subst (λ (h : Handle). Seated s₂ (record { handle = h; shelf = shelf })) (sym same) seated;
+        laid = carried-laid _ _ _ _ c stands.laid;
       },
-      record {
-        calls = (call.fetches shelf, handed line) ∷ (call.begins line recorded, done) ∷ [];
-        does =
-            subst (λ (h : Handle). Does None (begins shelf recorded) ((call.fetches shelf, handed line) ∷ (call.begins line recorded, done) ∷ []) (Ok Done) (Some (record { handle = h; shelf = shelf }))) (sym same)
-            (does.begun shelf recorded line);
-        runs = runs_more forward s s₁ s₂ (call.fetches shelf) (handed line) _ r₁.pool r₁.table.lines r₁.next step₁ shows₁ (runs_one forward s₁ s₂ (call.begins line recorded) done r₂.pool r₂.table.lines r₂.next step₂ shows₂);
-      },
+      c,
     )
 
 module _ (r r₁ : Register Name) (seat : OpenSitting) where
@@ -225,7 +227,13 @@ module _ (r r₁ : Register Name) (seat : OpenSitting) where
       → Leads r (Some seat) r₁ (Some seat) (λ s s'. Carried s request answer s')
   entered request bytes measured change (Ok value) answer e is told s stands =
       let entry = call.enters handle bytes measured change in
-      let (s₁, shows, step) = told s stands.shows in (
+      let (s₁, shows, step) = told s stands.shows in
+      let c : Carried (standing s (Some seat)) request answer (standing s₁ (Some seat)) =
+      record {
+        calls = (entry, done) ∷ [];
+        does = subst (λ (a : Answer). Does (Some (seat_of seat)) request ((entry, done) ∷ []) a (Some (seat_of seat))) (sym is) (does.entered (seat_of seat) request entry e);
+        runs = runs_one forward s s₁ entry done r₁.pool r₁.table.lines r₁.next step shows;
+      } in (
         s₁,
         record {
           shows = shows;
@@ -235,12 +243,9 @@ module _ (r r₁ : Register Name) (seat : OpenSitting) where
             letter = stands.seated.letter;
             bare = moves.bare-kept forward s s₁ entry done refl step seat.shelf stands.seated.bare;
           };
+          laid = carried-laid _ _ _ _ c stands.laid;
         },
-        record {
-          calls = (entry, done) ∷ [];
-          does = subst (λ (a : Answer). Does (Some (seat_of seat)) request ((entry, done) ∷ []) a (Some (seat_of seat))) (sym is) (does.entered (seat_of seat) request entry e);
-          runs = runs_one forward s s₁ entry done r₁.pool r₁.table.lines r₁.next step shows;
-        },
+        c,
       )
   entered request bytes measured change (Err why) answer e is told s stands =
       let entry = call.enters handle bytes measured change in
@@ -251,6 +256,7 @@ module _ (r r₁ : Register Name) (seat : OpenSitting) where
           shows = shows;
           single = subst (λ (z : Shown). Single z.places) same stands.single;
           seated = subst (λ (z : Shown). Seated z (seat_of seat)) same stands.seated;
+          laid = subst (λ (z : Shown). AllLaid (standing z (Some seat))) same stands.laid;
         },
         record {
           calls = (entry, refused why) ∷ [];
@@ -272,6 +278,7 @@ module _ (r r₁ : Register Name) (seat : OpenSitting) where
           shows = shows;
           single = subst (λ (z : Shown). Single z.places) same stands.single;
           seated = subst (λ (z : Shown). Seated z (seat_of seat)) same stands.seated;
+          laid = subst (λ (z : Shown). AllLaid (standing z (Some seat))) same stands.laid;
         },
         record { calls = (call.commits handle, refused why) ∷ []; does = does.commit_refused (seat_of seat) why; runs = runs_one forward s s₁ (call.commits handle) (refused why) r₁.pool r₁.table.lines r₁.next step shows },
       ))
@@ -314,7 +321,8 @@ module _ (r r₁ : Register Name) (seat : OpenSitting) where
     pub left : Tells forward r (call.abandons handle) done r₁ → Leads r (Some seat) r₂ None (λ s s'. Left s s'.shown)
     left told s stands =
         let (s₂, shows₂, runs) = (more r r₁ r₂ (call.abandons handle) done _ told (last r₁ r₂ (call.stows handle seat.shelf) done laid)).leads s stands.shows in
-        (s₂, record { shows = shows₂; single = single-runs (leaving (Some (seat_of seat))) s s₂ runs stands.single; seated = tt }, runs)
+        let laid = runs-laid (Some (seat_of seat)) None abandons (leaving (Some (seat_of seat))) (Ok Done) s s₂ (does.abandoned (seat_of seat)) runs stands.laid in
+        (s₂, record { shows = shows₂; single = single-runs (leaving (Some (seat_of seat))) s s₂ runs stands.single; seated = tt; laid = laid }, runs)
 
 -- abandoning is leaving
 pub abandoned : (r r₁ : Register Name) (seat : OpenSitting) → Leads r (Some seat) r₁ None (λ s s'. Left s s'.shown)
@@ -360,4 +368,5 @@ pub ended : (r r₁ r₂ : Register Name) (seat : Option OpenSitting) → Leads 
 ended r r₁ r₂ seat leave clearing s stands =
     let (s₁, stands₁, gone) = leave s stands in
     let (s₂, stands₂, cleared) = clearing s₁ stands₁ in
-    (s₂, stands₂, record { between = s₁; left = gone; after = s₂; cleared = cleared; used = refl })
+    let free = cleared-unused s₁ s₂ stands₁.single cleared (r₂.pool, plainly forward r₂.pool r₂.table.lines r₂.next s₂ stands₂.shows) stands₂.laid in
+    (s₂, stands₂, record { between = s₁; left = gone; after = s₂; cleared = cleared; used = refl; given_back = free })

@@ -4,7 +4,7 @@ pub mod Lexing
 pub mod Readings
 mod Running
 mod Saying
-mod Fronts
+mod Handing
 mod Carrying
 mod Placing
 mod Turning

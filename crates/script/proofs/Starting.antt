@@ -1,5 +1,5 @@
 -- The beginning and the end of a run: where it stands at first, and that its report is finished when everything is given up.
-use Rattle.std.proofs.Common.{◌≡◌, ℕ, ◌≤◌, List, length, take, None, Option, Result, is_ok, sym, ap, ◌∙◌, subst, arith}
+use Rattle.std.proofs.Common.{◌≡◌, ℕ, ◌≤◌, List, length, take, None, Option, Result, is_ok, sym, refl, ap, ◌∙◌, subst, arith}
 use Rattle.std.proofs.lemmas.List.{length-take}
 use Rattle.kinds.specs.declared.name.Name.{Name}
 use Rattle.register.proofs.Moves.{single-new}
@@ -20,7 +20,7 @@ use Rattle.script.specs.declared.sitting.OpenSitting.{OpenSitting}
 
 -- a register newly made stands outside a sitting
 pub stands-new : (r : Register Name) (nodes first : ℕ) → ShownBy forward r (newly_made nodes first) → Stands r None (newly_made nodes first)
-stands-new r nodes first shows = record { shows = shows; single = single-new nodes first; seated = tt }
+stands-new r nodes first shows = record { shows = shows; single = single-new nodes first; seated = tt; laid = refl }
 
 -- a run of the lines after which everything is given up: so many nodes are then in use
 pub given-up : (r r₁ r₂ : Register Name) (seat : Option OpenSitting) (script : List ℕ) (report before : Report) (runner : Runner) (ran : Result (Unit {0}) Full)

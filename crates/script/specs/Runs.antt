@@ -63,10 +63,11 @@ unfoldable pub Cleared : ℕ → Shown → Shown → Type 0
 Cleared zero s s' = s ≡ s'
 Cleared (suc shelves) s s' = (t : Shown) × Cleared shelves s t × ShelfCleared (65 + shelves) t s'
 
--- A run that ends in s leaves the sitting, clears the 26 shelves, and so many nodes are then in use.
+-- A run that ends in s leaves the sitting, clears the 26 shelves, and so many nodes are then in use: none, since no line is left.
 pub record Ended (s : Standing) (nodes : ℕ) : Type 0 where
   pub between : Shown
   pub left : Left s between
   pub after : Shown
   pub cleared : Cleared 26 between after
   pub used : nodes ≡ after.used
+  pub given_back : nodes ≡ 0

@@ -1,15 +1,15 @@
 -- What the runner's functions need and ensure: the register shows a state in which an open sitting is the register's too, and
 -- from each such state the function leads to another.
-use Rattle.std.specs.Prelude.{◌≡◌, ℕ, true, List, Some, None, Ok, Err, Option, Result}
+use Rattle.std.specs.Prelude.{◌≡◌, ℕ, ◌+◌, true, List, Some, None, Ok, Err, Option, Result}
 use Rattle.std.specs.Option.{option_map}
 use Rattle.kinds.specs.declared.name.Name.{Name}
 use Rattle.register.specs.Calls as call
 use Rattle.register.specs.Calls.{Call, sitting_handle}
 use Rattle.register.specs.declared.handle.Parts.{Parts as Handle}
-use Rattle.register.specs.Places.{is_resting, is_sitting}
+use Rattle.register.specs.Places.{is_resting, is_sitting, live_in}
 use Rattle.register.specs.Registers.{ShownBy}
 use Rattle.register.specs.Runs.{Runs}
-use Rattle.register.specs.Shelves.{Bare, Single}
+use Rattle.register.specs.Shelves.{Bare, Single, laid_in}
 use Rattle.register.specs.Shown.{Shown, at}
 use Rattle.register.specs.Tables.{is_letter}
 use Rattle.register.specs.declared.handle.Refused.{Refused}
@@ -37,11 +37,21 @@ abbrev pub SeatedIn : Shown → Option Seat → Type 0
 SeatedIn s None = Unit {0}
 SeatedIn s (Some seat) = Seated s seat
 
--- the register shows the state, at most one line lies on each shelf, and the open sitting is seated
+-- 1 where a sitting is open
+abbrev pub seats : Option Seat → ℕ
+seats None = 0
+seats (Some seat) = 1
+
+-- all live lines lie on shelves, but for that of the open sitting
+abbrev pub AllLaid : Standing → Type 0
+AllLaid s = live_in s.shown.places ≡ laid_in s.shown.places + seats s.seat
+
+-- the register shows the state, at most one line lies on each shelf, the open sitting is seated, and all other lines lie on shelves
 pub record Stands (r : Register Name) (seat : Option OpenSitting) (s : Shown) : Type 0 where
   pub shows : ShownBy forward r s
   pub single : Single s.places
   pub seated : SeatedIn s (option_map seat_of seat)
+  pub laid : AllLaid (standing s seat)
 
 -- the sitting that a beginning opens, and the one that a refused commit leaves open
 abbrev pub begun_by : Result OpenSitting Refusal → Option OpenSitting

@@ -20,15 +20,12 @@ use crate::shelves::{as_of_on, branch_on, clear, open_on, retire_on, total_on};
 use crate::sitting::{OpenSitting, abandon_sitting, after_commit, begin_on, commit_sitting};
 use kinds::Name;
 use pool::Node;
-use register::{Refusal, Register};
+use register::{MOST_NODES, Refusal, Register};
 use report::{Full, Piece, Report};
 use thiserror::Error;
 
 /// The longest script that is run, in bytes.
 const LONGEST_SCRIPT: usize = 32768;
-
-/// The most nodes that a register has.
-const MOST_NODES: usize = 65535;
 
 /// A run that was refused: how long the report is, and why it stopped.
 #[derive(Clone, Copy, Debug, Error)]
@@ -268,5 +265,5 @@ pub fn run(
         });
     }
     let size = nodes.len().min(MOST_NODES);
-    run_script(script, &mut nodes[0..size], first_serial, out)
+    run_script(script, &mut nodes[..size], first_serial, out)
 }

@@ -1,7 +1,7 @@
 use Rattle.std.proofs.Common.{ℕ, subst, arith}
 use Rattle.script.specs.Runs.{Answered, Ended, beginning}
 use Rattle.script.specs.Scripts.{Reported}
-use Rattle.script.proofs.Fronts.{front-behind, front-most}
+use Rattle.register.proofs.Fronts.{front-behind, front-most}
 use Rattle.script.proofs.runner.run.Goals as goal
 
 pub returns : goal.returns

@@ -59,13 +59,13 @@ may_enter-requires g c =
       within = self.within;
     }
 
-pub returns-in_err-may_enter : goal.returns-in_err-may_enter
-returns-in_err-may_enter g c =
+pub returns-in_err-card : goal.returns-in_err-card
+returns-in_err-card g c =
     let self = c.args.self.now in
     record {
       told =
-          passed (λ r. Tells (names g.N.Key.words g.N.Key.key g.N.Ord.cmp g.N.NameOrder.named g.N.NameOrder.name) self (enters (sitting_handle c.args.sitting.now) c.args.name.now c.args.measured c.args.change) (entry_answer r) self) _ _ c.from_residual-in_err-may_enter.ensures.1
-          (declines self.pool self.table.lines c.args.sitting.now.place c.args.sitting.now.serial (Some c.in_ok-record.record) c.in_ok-record.ensures.0 self.next c.args.name.now c.args.measured c.args.change c.in_ok-record.recorded c.in_ok-record.sheet c.in_ok-record.ensures.1 c.in_ok-name.ensures.0 c.in_ok-reading.ensures.0 (kind_of g.met.N.Key g.met.N.Ord.total) g.N.NameOrder.named g.N.NameOrder.name (ltb-false _ _ (sym c.is_late.ensures ∙ c.if-is_late.false)) c.from-measured.result c.from-measured.ensures c.from_name-name.result (c.from_name-name.ensures ∙ ap g.N.NameOrder.named c.in_ok-name.ensures.1) _ c.in_err-may_enter.ensures);
+          passed (λ r. Tells (names g.N.Key.words g.N.Key.key g.N.Ord.cmp g.N.NameOrder.named g.N.NameOrder.name) self (enters (sitting_handle c.args.sitting.now) c.args.name.now c.args.measured c.args.change) (entry_answer r) self) _ _ c.from_residual-in_err-card.ensures.1
+          (declines self.pool self.table.lines c.args.sitting.now.place c.args.sitting.now.serial (Some c.in_ok-record.record) c.in_ok-record.ensures.0 self.next c.args.name.now c.args.measured c.args.change c.in_ok-record.recorded c.in_ok-record.sheet c.in_ok-record.ensures.1 c.in_ok-name.ensures.0 c.in_ok-reading.ensures.0 (kind_of g.met.N.Key g.met.N.Ord.total) g.N.NameOrder.named g.N.NameOrder.name (ltb-false _ _ (sym c.is_late.ensures ∙ c.if-is_late.false)) c.from-measured.result c.from-measured.ensures c.from_name-name.result (c.from_name-name.ensures ∙ ap g.N.NameOrder.named c.in_ok-name.ensures.1) _ c.in_err-card.ensures.declined);
       same = λ _. refl;
     }
 
@@ -73,15 +73,15 @@ pub change_sheet-sheet-requires : goal.change_sheet-sheet-requires
 change_sheet-sheet-requires g c =
     let self = c.args.self.now in
     let (xs, k) = the_places self.pool self.table.lines self.kept in
-    record { ready = enterable self.pool self.table.lines c.args.sitting.now.place c.args.sitting.now.serial (Some c.in_ok-record.record) c.in_ok-record.ensures.0 self.next c.args.name.now c.args.measured c.args.change c.in_ok-record.recorded c.in_ok-record.sheet c.in_ok-record.ensures.1 c.in_ok-name.ensures.0 c.in_ok-reading.ensures.0 (kind_of g.met.N.Key g.met.N.Ord.total) g.N.NameOrder.named g.N.NameOrder.name (ltb-false _ _ (sym c.is_late.ensures ∙ c.if-is_late.false)) c.from-measured.result c.from-measured.ensures c.from_name-name.result (c.from_name-name.ensures ∙ ap g.N.NameOrder.named c.in_ok-name.ensures.1) c.in_ok-may_enter.ensures xs k self.table.sized }
+    record { card = c.in_ok-card.ensures.card; ready = enterable self.pool self.table.lines c.args.sitting.now.place c.args.sitting.now.serial (Some c.in_ok-record.record) c.in_ok-record.ensures.0 self.next c.args.name.now c.args.measured c.args.change c.in_ok-record.recorded c.in_ok-record.sheet c.in_ok-record.ensures.1 c.in_ok-name.ensures.0 c.in_ok-reading.ensures.0 (kind_of g.met.N.Key g.met.N.Ord.total) g.N.NameOrder.named g.N.NameOrder.name (ltb-false _ _ (sym c.is_late.ensures ∙ c.if-is_late.false)) c.from-measured.result c.from-measured.ensures c.from_name-name.result (c.from_name-name.ensures ∙ ap g.N.NameOrder.named c.in_ok-name.ensures.1) c.in_ok-card.ensures.declined xs k self.table.sized }
 
 pub invariant_of-self : goal.invariant_of-self
 invariant_of-self g c =
     let self = c.args.self.now in
     let (xs, k) = the_places self.pool self.table.lines self.kept in
-    ghosts c.change_sheet-sheet.new.pool c.put.new.self.lines _ (kept-entered self.pool self.table.lines c.args.sitting.now.place c.args.sitting.now.serial (Some c.in_ok-record.record) c.in_ok-record.ensures.0 self.next c.args.name.now c.args.measured c.args.change c.in_ok-record.recorded c.in_ok-record.sheet c.in_ok-record.ensures.1 c.in_ok-name.ensures.0 c.in_ok-reading.ensures.0 (kind_of g.met.N.Key g.met.N.Ord.total) g.N.NameOrder.named g.N.NameOrder.name (ltb-false _ _ (sym c.is_late.ensures ∙ c.if-is_late.false)) c.from-measured.result c.from-measured.ensures c.from_name-name.result (c.from_name-name.ensures ∙ ap g.N.NameOrder.named c.in_ok-name.ensures.1) c.in_ok-may_enter.ensures c.change_sheet-sheet.result c.change_sheet-sheet.new.pool _ (put-at self.table.lines _ _ _ _ _ c.put.ensures c.place.ensures c.seated.ensures) (λ t hs. c.change_sheet-sheet.ensures.owned c.args.change t hs c.in_ok-reading.ensures.1) xs k)
+    ghosts c.change_sheet-sheet.new.pool c.put.new.self.lines _ (kept-entered self.pool self.table.lines c.args.sitting.now.place c.args.sitting.now.serial (Some c.in_ok-record.record) c.in_ok-record.ensures.0 self.next c.args.name.now c.args.measured c.args.change c.in_ok-record.recorded c.in_ok-record.sheet c.in_ok-record.ensures.1 c.in_ok-name.ensures.0 c.in_ok-reading.ensures.0 (kind_of g.met.N.Key g.met.N.Ord.total) g.N.NameOrder.named g.N.NameOrder.name (ltb-false _ _ (sym c.is_late.ensures ∙ c.if-is_late.false)) c.from-measured.result c.from-measured.ensures c.from_name-name.result (c.from_name-name.ensures ∙ ap g.N.NameOrder.named c.in_ok-name.ensures.1) c.in_ok-card.ensures.declined c.change_sheet-sheet.result c.change_sheet-sheet.new.pool _ (put-at self.table.lines _ _ _ _ _ c.put.ensures c.place.ensures c.seated.ensures) (λ t hs. c.change_sheet-sheet.ensures.owned c.args.change t hs c.in_ok-reading.ensures.1) xs k)
 
 pub returns : goal.returns
 returns g c =
     let self = c.args.self.now in
-    record { told = made self.pool self.table.lines c.args.sitting.now.place c.args.sitting.now.serial (Some c.in_ok-record.record) c.in_ok-record.ensures.0 self.next c.args.name.now c.args.measured c.args.change c.in_ok-record.recorded c.in_ok-record.sheet c.in_ok-record.ensures.1 c.in_ok-name.ensures.0 c.in_ok-reading.ensures.0 (kind_of g.met.N.Key g.met.N.Ord.total) g.N.NameOrder.named g.N.NameOrder.name (ltb-false _ _ (sym c.is_late.ensures ∙ c.if-is_late.false)) c.from-measured.result c.from-measured.ensures c.from_name-name.result (c.from_name-name.ensures ∙ ap g.N.NameOrder.named c.in_ok-name.ensures.1) c.in_ok-may_enter.ensures c.change_sheet-sheet.result c.change_sheet-sheet.new.pool _ (put-at self.table.lines _ _ _ _ _ c.put.ensures c.place.ensures c.seated.ensures) (λ t hs. c.change_sheet-sheet.ensures.owned c.args.change t hs c.in_ok-reading.ensures.1) c.change_sheet-sheet.ensures.used c.change_sheet-sheet.ensures.size; same = never }
+    record { told = made self.pool self.table.lines c.args.sitting.now.place c.args.sitting.now.serial (Some c.in_ok-record.record) c.in_ok-record.ensures.0 self.next c.args.name.now c.args.measured c.args.change c.in_ok-record.recorded c.in_ok-record.sheet c.in_ok-record.ensures.1 c.in_ok-name.ensures.0 c.in_ok-reading.ensures.0 (kind_of g.met.N.Key g.met.N.Ord.total) g.N.NameOrder.named g.N.NameOrder.name (ltb-false _ _ (sym c.is_late.ensures ∙ c.if-is_late.false)) c.from-measured.result c.from-measured.ensures c.from_name-name.result (c.from_name-name.ensures ∙ ap g.N.NameOrder.named c.in_ok-name.ensures.1) c.in_ok-card.ensures.declined c.change_sheet-sheet.result c.change_sheet-sheet.new.pool _ (put-at self.table.lines _ _ _ _ _ c.put.ensures c.place.ensures c.seated.ensures) (λ t hs. c.change_sheet-sheet.ensures.owned c.args.change t hs c.in_ok-reading.ensures.1) c.change_sheet-sheet.ensures.used c.change_sheet-sheet.ensures.size; same = never }
