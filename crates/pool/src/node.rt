@@ -5,14 +5,16 @@ ghost use Rattle.pool.specs.Node.{free_node, with_count};
 
 /// A key of two 64-bit words.
 #[derive(Clone, Copy, Default, PartialEq, Eq, PartialOrd, Ord)]
+#[repr(C)]
 pub struct Words {
     pub high: u64,
     pub low: u64,
 }
 
-/// A node of 40 bytes. A link is the number of another node, and 0 is no link, here and wherever a node is named: an `Option`
-/// of a 16-bit number, also of a `NonZeroU16`, takes 4 bytes, and the node would have 48.
+/// A node of 40 bytes, in C's layout, so that C can lend it. A link is the number of another node, and 0 is no link, here and
+/// wherever a node is named: an `Option` of a 16-bit number, also of a `NonZeroU16`, takes 4 bytes, and the node would have 48.
 #[derive(Clone, Copy, Default)]
+#[repr(C)]
 pub struct Node {
     pub key: Words,
     pub word: i64,

@@ -1,0 +1,47 @@
+//! The register for C: a script is run in memory that the caller lends.
+#![tactic(auto)]
+
+ghost use Rattle.std.specs.Prelude.{◌≡◌, ◌<◌, ◌≤◌, min, length, drop};
+ghost use Rattle.script.specs.Runs.{beginning};
+ghost use Rattle.tinglacier.specs.Numbers.{OfNone};
+ghost use Rattle.tinglacier.specs.Outcomes.{NotRun, Reported};
+
+mod outcome;
+#[cfg(test)]
+mod tests;
+mod text;
+
+pub use outcome::Outcome;
+use pool::Node;
+use script::run;
+use text::text_of;
+
+/// Runs a script in a register made over `nodes`, and writes its report into `report`.
+#[unsafe(no_mangle)]
+pub extern "C" fn tinglacier_run(
+    script: &[u8],
+    nodes: &mut [Node],
+    first_serial: u32,
+    report: &mut [u8],
+) -> Outcome
+    ensures within { result.length ≤ length report.old }
+    ensures beyond { drop 65535 nodes.new ≡ drop 65535 nodes.old }
+    ensures long { 32768 < length script.now → NotRun result report.old report.new × (nodes.new ≡ nodes.old) }
+    ensures ran { length script.now ≤ 32768 → Reported (beginning (min (length nodes.old) 65535) first_serial) script.now result report.old report.new }
+{
+    Outcome::from(run(script, nodes, first_serial, report))
+}
+
+/// Writes the text of the refusal that has the number, as far as it fits into `text`. Gives the bytes written, which are 0 where
+/// no refusal has the number.
+#[unsafe(no_mangle)]
+pub extern "C" fn tinglacier_refusal_text(number: u8, text: &mut [u8]) -> usize
+    ensures within { result ≤ length text.old }
+    ensures behind { drop result text.new ≡ drop result text.old }
+    ensures none { OfNone number → result ≡ 0 }
+{
+    let whole = text_of(number);
+    let length = whole.len().min(text.len());
+    text[..length].copy_from_slice(&whole.as_bytes()[..length]);
+    length
+}
