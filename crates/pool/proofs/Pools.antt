@@ -1,14 +1,14 @@
 -- What a pool holds after each call, from the equations that the writes ensure.
 use Rattle.std.proofs.Common.{◌≡◌, ℕ, ◌+◌, ◌-◌, ◌^◌, ◌<◌, ◌≤◌, List, ◌∷◌, map, length, set, ℤ, sym, refl, ap, ◌∙◌, subst, inl, inr, arith}
-use Rattle.std.proofs.lemmas.Bool.{cases_eq}
+use Rattle.std.proofs.lemmas.Bool.{cases_eq, cases_lt}
 use Rattle.pool.proofs.Holding.{built, count-le, lowered, opened, owner-used, raised}
 use Rattle.pool.proofs.Nodes.{node_kept, node-le-sum, node-written, used-numbered, used-within}
 use Rattle.pool.proofs.Owners.{no-links, same-other, same_self}
-use Rattle.pool.proofs.FreeList.{busy-free, busy-used, first-within}
+use Rattle.pool.proofs.FreeList.{busy-free, busy-used, first-within, idle-free}
 use Rattle.pool.proofs.Trees.{same-fork}
 use Rattle.pool.proofs.Writes.{first-free, recounted-linked}
-use Rattle.pool.specs.FreeList.{busy}
-use Rattle.pool.specs.Held.{Carries, CarriesLinks, Held, Holds, HoldsIn, TakenApart, held, node_of}
+use Rattle.pool.specs.FreeList.{AllFree, busy}
+use Rattle.pool.specs.Held.{Carries, CarriesIn, CarriesLinks, CarriesLinksIn, Held, Holds, HoldsIn, SoundMemory, TakenApart, held, node_of}
 use Rattle.pool.specs.Node.{free_node, node_at, with_count}
 use Rattle.pool.specs.Owners.{links, times}
 use Rattle.pool.specs.Sound.{SoundIn, memory_of, used_of}
@@ -130,17 +130,19 @@ pub link-used : (mem : List Node) (free used : ℕ) (roots : List ℕ) → Sound
 link-used mem free used roots s n m h l = omega (arith, s.counted m h, node-le-sum (links m) mem n (no-links m 0 h))
 
 -- the links of a node in use are 0 or in use
-pub carries-links : (p : Pool) (hs : List Held) (n : ℕ) (key : Words) (word : ℤ) (height : ℕ) (nested left right : Tree) → Holds p hs
-    → Carries p n (fork key word height nested left right) → CarriesLinks p (node_at (memory_of p) n) nested left right
-unfolding Holds
-carries-links p hs n key word height nested left right h c =
-    let x : Node = node_at (memory_of p) n in
-    let used : (m : ℕ) → 0 < m → 0 < links m x → 0 < (node_at (memory_of p) m).count = link-used _ _ _ (map node_of hs) h.sound n in
+pub carries-links : (mem : List Node) (n : ℕ) (key : Words) (word : ℤ) (height : ℕ) (nested left right : Tree) → SoundMemory mem
+    → CarriesIn mem n (fork key word height nested left right) → CarriesLinksIn mem (node_at mem n) nested left right
+carries-links mem n key word height nested left right s c =
+    let x : Node = node_at mem n in
+    let used : (m : ℕ) → 0 < m → 0 < links m x → 0 < (node_at mem m).count = link-used _ _ _ (map node_of s.owners) s.holds.sound n in
     record {
       by_nested = record { kept = λ k. used x.nested k (omega (arith, same_self x.nested)); linked = c.linked.4 };
       by_left = record { kept = λ k. used x.left k (omega (arith, same_self x.left)); linked = c.linked.5 };
       by_right = record { kept = λ k. used x.right k (omega (arith, same_self x.right)); linked = c.linked.6 };
     }
+
+pub sound-memory : (p : Pool) (hs : List Held) → Holds p hs → SoundMemory (memory_of p)
+sound-memory p hs h = record { free = p.free; used = p.used; owners = hs; holds = holds-in p hs h }
 
 -- the tree of a node is the fork with the node's contents
 pub held-fork : (p : Pool) (n : ℕ) (t : Tree) (hs : List Held) → 0 < n → Holds p (held n t ∷ hs)
@@ -160,6 +162,23 @@ held-some p n t hs h k =
     let x : Node = node_at (memory_of p) n in
     omega (arith, h.sound.tallied, node-le-sum busy (memory_of p) n (busy-free (free_node 0) refl), busy-used x (held-used p n t hs h k))
 
+-- where no node is in use, all are free
+pub emptied : (p : Pool) (hs : List Held) → Holds p hs → used_of p ≡ 0 → AllFree (memory_of p)
+unfolding Holds
+emptied p hs h none = record {
+  first = p.free;
+  chain = h.sound.chain;
+  chained = h.sound.chained;
+  once = λ n k fits.
+      let x : Node = node_at (memory_of p) n in
+      let zero : x.count ≡ 0 =
+      elim (cases_lt 0 x.count) [
+        | inl more ↦ absurd (omega (arith, none, h.sound.tallied, node-le-sum busy (memory_of p) n (busy-free (free_node 0) refl), busy-used x more))
+        | inr few ↦ omega arith
+      ] in
+      h.sound.listed n k fits ∙ idle-free x zero;
+}
+
 -- ---- one owner fewer
 
 module _ (p q : Pool) (n : ℕ) (memory : memory_of q ≡ set (memory_of p) (n - 1) (with_count (node_at (memory_of p) n) ((node_at (memory_of p) n).count - 1)))
@@ -178,7 +197,7 @@ module _ (p q : Pool) (n : ℕ) (memory : memory_of q ≡ set (memory_of p) (n -
       let one : 0 < (node_at (memory_of p) n).count = omega (arith, shared) in
       let left_over : 0 < (node_at (memory_of p) n).count - 1 = omega (arith, shared) in
       let new : Carries q n t = carries-recounted p q n _ memory left_over one n t (held-carries p n t hs h) in
-      let ls = carries-links q hs n key word height nested left right (released t hs h) new in
+      let ls = carries-links (memory_of q) n key word height nested left right (sound-memory q hs (released t hs h)) new in
       let at : node_at (memory_of q) n ≡ with_count x ((node_at (memory_of p) n).count - 1) =
       ap (λ (m : List Node). node_at m n) memory
       ∙ node-written (memory_of p) n _ (used-numbered (memory_of p) n one) (used-within (memory_of p) n one)

@@ -11,11 +11,10 @@ use Rattle.pool.proofs.Trees.{linked-agrees, linked-unique}
 use Rattle.pool.specs.FreeList.{busy}
 use Rattle.pool.specs.Node.{free_node, node_at, with_count}
 use Rattle.pool.specs.Owners.{links, times}
-use Rattle.pool.specs.Reached.{Accounted, Reached, linked, owned}
-use Rattle.pool.specs.Sound.{Sound, SoundIn}
+use Rattle.pool.specs.Reached.{AccountedIn, Reached, linked, owned}
+use Rattle.pool.specs.Sound.{SoundIn}
 use Rattle.pool.specs.Tree.{Linked, Tree, fork, leaf}
 use Rattle.pool.specs.declared.node.Node.{Node}
-use Rattle.pool.specs.declared.pool.Pool.{Pool}
 
 -- two memories that agree on what is reached carry the same trees there
 pub reached-agrees : (mem after : List Node) (roots : List ℕ)
@@ -150,9 +149,8 @@ none_owned : (roots : List ℕ) → AllByRecursion (λ r. r ≡ 0) roots → (n 
 none_owned [] a n h = refl
 none_owned (r ∷ roots) a n h = omega (arith, same-other n r (λ e. omega (arith, h, e, a.0)), none_owned roots a.1 n h)
 
-pub accounted : (p : Pool) (roots : List ℕ) → Sound p roots → Accounted p roots
-unfolding Sound
-accounted p roots s =
+pub accounted : (mem : List Node) (free used : ℕ) (roots : List ℕ) → SoundIn mem free used roots → AccountedIn mem free used roots
+accounted mem free used roots s =
     record {
       reached = used-reached _ _ _ roots s;
       used = reached-used _ _ _ roots s;

@@ -25,3 +25,10 @@ pub record FreePast (mem : List Node) (first i : ℕ) : Type 0 where
   pub past : (n : ℕ) → i < n → n ≤ length mem → times n chain ≡ 1
   pub upto : (n : ℕ) → n ≤ i → times n chain ≡ 0
   pub spare : i + length chain ≡ length mem
+
+-- all nodes are free, each once on the free list
+pub record AllFree (mem : List Node) : Type 0 where
+  pub first : ℕ
+  pub chain : List ℕ
+  pub chained : Chain mem first chain
+  pub once : (n : ℕ) → 0 < n → n ≤ length mem → times n chain ≡ 1

@@ -31,15 +31,28 @@ unfoldable pub Holds : Pool → List Held → Type 0
 Holds p hs = HoldsIn p.nodes.now p.free p.used hs
 
 -- the node n is 0 or in use, and carries the tree
-pub record Carries (p : Pool) (n : ℕ) (t : Tree) : Type 0 where
-  pub kept : 0 < n → 0 < (node_at (memory_of p) n).count
-  pub linked : Linked (memory_of p) n t
+pub record CarriesIn (mem : List Node) (n : ℕ) (t : Tree) : Type 0 where
+  pub kept : 0 < n → 0 < (node_at mem n).count
+  pub linked : Linked mem n t
+
+abbrev pub Carries : Pool → ℕ → Tree → Type 0
+Carries p = CarriesIn (memory_of p)
 
 -- the three links of the node x carry the three trees
-pub record CarriesLinks (p : Pool) (x : Node) (nested left right : Tree) : Type 0 where
-  pub by_nested : Carries p x.nested nested
-  pub by_left : Carries p x.left left
-  pub by_right : Carries p x.right right
+pub record CarriesLinksIn (mem : List Node) (x : Node) (nested left right : Tree) : Type 0 where
+  pub by_nested : CarriesIn mem x.nested nested
+  pub by_left : CarriesIn mem x.left left
+  pub by_right : CarriesIn mem x.right right
+
+abbrev pub CarriesLinks : Pool → Node → Tree → Tree → Tree → Type 0
+CarriesLinks p = CarriesLinksIn (memory_of p)
+
+-- a memory that is sound with some free list and some outside owners
+pub record SoundMemory (mem : List Node) : Type 0 where
+  pub free : ℕ
+  pub used : ℕ
+  pub owners : List Held
+  pub holds : HoldsIn mem free used owners
 
 -- a fork was taken apart into the node x: x has the fork's contents, and the pool holds its three trees
 pub record TakenApart (p : Pool) (x : Node) (key : Words) (word : ℤ) (height : ℕ) (nested left right : Tree) (hs : List Held) : Type 0 where

@@ -13,16 +13,20 @@ pub data Reached (mem : List Node) (roots : List ℕ) : ℕ → Type 0 where
   owned : (n : ℕ) → 0 < times n roots → Reached mem roots n
   linked : (m n : ℕ) → Reached mem roots m → 0 < links n (node_at mem m) → Reached mem roots n
 
-pub record Accounted (p : Pool) (roots : List ℕ) : Type 0 where
+-- of the nodes of a memory, with this first free node and so many nodes in use
+pub record AccountedIn (mem : List Node) (first busy : ℕ) (roots : List ℕ) : Type 0 where
   -- a node is in use exactly where an outside owner reaches it
-  pub reached : (n : ℕ) → 0 < (node_at (memory_of p) n).count → Reached (memory_of p) roots n
-  pub used : (n : ℕ) → 0 < n → Reached (memory_of p) roots n → 0 < (node_at (memory_of p) n).count
+  pub reached : (n : ℕ) → 0 < (node_at mem n).count → Reached mem roots n
+  pub used : (n : ℕ) → 0 < n → Reached mem roots n → 0 < (node_at mem n).count
   -- its count is the number of its owners
-  pub counted : (n : ℕ) → 0 < n → (node_at (memory_of p) n).count ≡ times n roots + links_to n (memory_of p)
+  pub counted : (n : ℕ) → 0 < n → (node_at mem n).count ≡ times n roots + links_to n mem
   -- the free list has every other node once, and no node in use
   pub chain : List ℕ
-  pub chained : Chain (memory_of p) p.free chain
-  pub listed : (n : ℕ) → 0 < n → n ≤ length (memory_of p) → (node_at (memory_of p) n).count ≡ 0 → times n chain ≡ 1
-  pub unlisted : (n : ℕ) → 0 < n → n ≤ length (memory_of p) → 0 < (node_at (memory_of p) n).count → times n chain ≡ 0
+  pub chained : Chain mem first chain
+  pub listed : (n : ℕ) → 0 < n → n ≤ length mem → (node_at mem n).count ≡ 0 → times n chain ≡ 1
+  pub unlisted : (n : ℕ) → 0 < n → n ≤ length mem → 0 < (node_at mem n).count → times n chain ≡ 0
   -- where no outside owner has a node, all nodes are free
-  pub empty : AllByRecursion (λ r. r ≡ 0) roots → used_of p ≡ 0
+  pub empty : AllByRecursion (λ r. r ≡ 0) roots → busy ≡ 0
+
+abbrev pub Accounted : Pool → List ℕ → Type 0
+Accounted p = AccountedIn (memory_of p) p.free (used_of p)

@@ -1,5 +1,6 @@
 -- The pool's one invariant, over the list of its outside owners.
 use Rattle.std.specs.Prelude.{◌≡◌, ℕ, ◌+◌, ◌<◌, ◌≤◌, List, length, sum_by}
+use Rattle.std.specs.Borrow.{GName}
 use Rattle.pool.specs.FreeList.{Chain, busy, idle}
 use Rattle.pool.specs.Node.{node_at}
 use Rattle.pool.specs.Owners.{links_to, times}
@@ -25,6 +26,10 @@ pub record SoundIn (mem : List Node) (free used : ℕ) (roots : List ℕ) : Type
 -- the nodes of a pool
 abbrev pub memory_of : Pool → List Node
 memory_of p = p.nodes.now
+
+-- the name of the borrow of the lent memory
+abbrev pub lender_of : Pool → GName
+lender_of p = p.nodes.ghost_name
 
 -- how many of them are in use
 abbrev pub used_of : Pool → ℕ

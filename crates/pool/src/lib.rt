@@ -5,6 +5,8 @@
 
 mod node;
 mod pool;
+mod state;
 
 pub use node::{Node, Words};
-pub use pool::Pool;
+pub use pool::{Pool, node_in};
+pub use state::PoolState;

@@ -7,6 +7,8 @@ mod make;
 mod owners;
 mod store;
 
+pub use look::node_in;
+
 /// Nodes are numbered from 1: node n is element n - 1 of the slice. They name one another by number and not by `Box`, since
 /// their memory is lent, and 0 names none, as in a node's links. They are 65,535 at most, so `as u16` is proved to lose nothing.
 #[derive(Drop)]

@@ -5,14 +5,12 @@ use Rattle.std.proofs.lemmas.Bool.{cases_eq}
 use Rattle.std.specs.List.{AllByRecursion}
 use Rattle.pool.proofs.Nodes.{used-within}
 use Rattle.pool.proofs.Owners.{same-other, same_self}
-use Rattle.pool.proofs.Pools.{carries-links, holds-in}
-use Rattle.pool.specs.Held.{Carries, Held, Holds}
+use Rattle.pool.proofs.Pools.{carries-links}
+use Rattle.pool.specs.Held.{CarriesIn, SoundMemory}
 use Rattle.pool.specs.Node.{node_at}
 use Rattle.pool.specs.Owners.{same, times}
-use Rattle.pool.specs.Sound.{memory_of}
 use Rattle.pool.specs.Tree.{Tree, fork, leaf}
 use Rattle.pool.specs.declared.node.Node.{Node}
-use Rattle.pool.specs.declared.pool.Pool.{Pool}
 use Rattle.tree.proofs.Orders.{self}
 use Rattle.tree.specs.Kind.{Kind}
 use Rattle.tree.specs.Shape.{Ascending, Item, items}
@@ -95,31 +93,31 @@ module _ {K : Type 0} (𝓚 : Kind K) (mem : List Node) where
         | inr ne ↦ omega (arith, same-other m n ne, once m ns xs h.1 asc.1)
       ]
 
-module _ {K : Type 0} (𝓚 : Kind K) (p : Pool) (hs : List Held) (h : Holds p hs) where
-  nodes : (n : ℕ) (t : Tree) → Carries p n t
-      → (ns : List ℕ) × Keyed 𝓚 (memory_of p) ns (items 𝓚.key t) × AllByRecursion (λ m. (0 < m) × (m ≤ length (memory_of p))) ns
+module _ {K : Type 0} (𝓚 : Kind K) (mem : List Node) (h : SoundMemory mem) where
+  nodes : (n : ℕ) (t : Tree) → CarriesIn mem n t
+      → (ns : List ℕ) × Keyed 𝓚 mem ns (items 𝓚.key t) × AllByRecursion (λ m. (0 < m) × (m ≤ length mem)) ns
   nodes n leaf c = ([], tt, tt)
   nodes n (fork key word tall nested left right) c =
-      let ls = carries-links p hs n key word tall nested left right h c in
-      let l = nodes (node_at (memory_of p) n).left left ls.by_left in
-      let r = nodes (node_at (memory_of p) n).right right ls.by_right in
+      let ls = carries-links mem n key word tall nested left right h c in
+      let l = nodes (node_at mem n).left left ls.by_left in
+      let r = nodes (node_at mem n).right right ls.by_right in
       let q = c.linked in (
         l.0 ++ n ∷ r.0,
-        keyed-append 𝓚 (memory_of p) l.0 _ (n ∷ r.0) _ l.1 (ap 𝓚.key (sym q.1), r.1),
-        All-append (λ m. (0 < m) × (m ≤ length (memory_of p))) l.0 (n ∷ r.0) l.2 ((q.0, used-within (memory_of p) n (c.kept q.0)), r.2),
+        keyed-append 𝓚 mem l.0 _ (n ∷ r.0) _ l.1 (ap 𝓚.key (sym q.1), r.1),
+        All-append (λ m. (0 < m) × (m ≤ length mem)) l.0 (n ∷ r.0) l.2 ((q.0, used-within mem n (c.kept q.0)), r.2),
       )
 
   -- as many items as nodes at most
-  pub few-items : (n : ℕ) (t : Tree) → Carries p n t → Ascending 𝓚.order (items 𝓚.key t) → length (items 𝓚.key t) ≤ length (memory_of p)
+  pub few-items : (n : ℕ) (t : Tree) → CarriesIn mem n t → Ascending 𝓚.order (items 𝓚.key t) → length (items 𝓚.key t) ≤ length mem
   few-items n t c asc =
       let ns = nodes n t c in
-      let m : ℕ = length (memory_of p) in
+      let m : ℕ = length mem in
       omega (
         arith,
-        keyed-length 𝓚 (memory_of p) ns.0 _ ns.1,
+        keyed-length 𝓚 mem ns.0 _ ns.1,
         up-length m ns.0 ns.2,
-        up_le m ns.0 (λ i. once 𝓚 (memory_of p) i ns.0 _ ns.1 asc),
+        up_le m ns.0 (λ i. once 𝓚 mem i ns.0 _ ns.1 asc),
       )
 
-  pub few : (n : ℕ) (t : Tree) → Carries p n t → Ascending 𝓚.order (items 𝓚.key t) → length (items 𝓚.key t) ≤ 65535
-  few n t c asc = omega (arith, few-items n t c asc, (holds-in p hs h).sound.small)
+  pub few : (n : ℕ) (t : Tree) → CarriesIn mem n t → Ascending 𝓚.order (items 𝓚.key t) → length (items 𝓚.key t) ≤ 65535
+  few n t c asc = omega (arith, few-items n t c asc, h.holds.sound.small)

@@ -13,12 +13,10 @@ use Rattle.tree.specs.declared.range.Total.{Total}
 use Rattle.tree.proofs.Orders.{Before, Behind, around, before-all, behind-all, equal-before, equal-behind, same_key, self}
 use Rattle.tree.proofs.Counting.{few}
 use Rattle.tree.proofs.Descent.{by-node, by-none, left-falls, parted, right-falls, stored-height}
-use Rattle.pool.specs.Held.{Carries, CarriesLinks, Held, Holds}
+use Rattle.pool.specs.Held.{CarriesIn, CarriesLinksIn, SoundMemory}
 use Rattle.pool.specs.Node.{node_at}
-use Rattle.pool.specs.Sound.{memory_of}
 use Rattle.pool.specs.Tree.{Tree, fork, fork_of, leaf}
 use Rattle.pool.specs.declared.node.Node.{Node}
-use Rattle.pool.specs.declared.pool.Pool.{Pool}
 use Rattle.pool.specs.declared.node.Words.{Words}
 
 -- ---- sums
@@ -116,9 +114,9 @@ module _ {K : Type 0} (order : K → K → Ordering) (key : Words → K) (low hi
 -- ---- at a node
 
 -- a link that is left out carries the leaf
-link-carries : (p : Pool) (b : Bool) (m l : ℕ) (u : Tree) → l ≡ cond b m 0 → Carries p m u → Carries p l (cond b u leaf)
-link-carries p true m l u e c = subst (λ (i : ℕ). Carries p i u) (sym e) c
-link-carries p false m l u e c = subst (λ (i : ℕ). Carries p i leaf) (sym e) (record { kept = λ h. absurd (omega arith); linked = refl })
+link-carries : (mem : List Node) (b : Bool) (m l : ℕ) (u : Tree) → l ≡ cond b m 0 → CarriesIn mem m u → CarriesIn mem l (cond b u leaf)
+link-carries mem true m l u e c = subst (λ (i : ℕ). CarriesIn mem i u) (sym e) c
+link-carries mem false m l u e c = subst (λ (i : ℕ). CarriesIn mem i leaf) (sym e) (record { kept = λ h. absurd (omega arith); linked = refl })
 
 module _ {K : Type 0} (𝓚 : Kind K) (low high : K) where
   -- what is asked of the tree
@@ -126,15 +124,15 @@ module _ {K : Type 0} (𝓚 : Kind K) (low high : K) where
   Asked t = Balanced t × Ascending 𝓚.order (items 𝓚.key t) × AllByRecursion Modest (items 𝓚.key t)
 
   -- the node m carries a tree lower than t, as is asked
-  pub record Lower (p : Pool) (t m : ℕ) : Type 0 where
-    pub falls : (node_at (memory_of p) m).height < t
-    pub carried : (u : Tree) × Carries p m u × Asked u
+  pub record Lower (mem : List Node) (t m : ℕ) : Type 0 where
+    pub falls : (node_at mem m).height < t
+    pub carried : (u : Tree) × CarriesIn mem m u × Asked u
 
-  lower : (p : Pool) (t m l : ℕ) (b : Bool) (u : Tree) → l ≡ cond b m 0 → Carries p m u → (node_at (memory_of p) m).height < t → Asked u → Lower p t l
-  lower p t m l true u e c f asked =
-      record { falls = subst (λ (i : ℕ). (node_at (memory_of p) i).height < t) (sym e) f; carried = (u, link-carries p true m l u e c, asked) }
-  lower p t m l false u e c f asked =
-      let d = link-carries p false m l u e c in record { falls = omega (arith, f, stored-height p l leaf d); carried = (leaf, d, (tt, tt, tt)) }
+  lower : (mem : List Node) (t m l : ℕ) (b : Bool) (u : Tree) → l ≡ cond b m 0 → CarriesIn mem m u → (node_at mem m).height < t → Asked u → Lower mem t l
+  lower mem t m l true u e c f asked =
+      record { falls = subst (λ (i : ℕ). (node_at mem i).height < t) (sym e) f; carried = (u, link-carries mem true m l u e c, asked) }
+  lower mem t m l false u e c f asked =
+      let d = link-carries mem false m l u e c in record { falls = omega (arith, f, stored-height mem l leaf d); carried = (leaf, d, (tt, tt, tt)) }
 
   walk-side : (b : Bool) (u : Tree) → walk 𝓚.order 𝓚.key low high (cond b u leaf) ≡ cond b (walk 𝓚.order 𝓚.key low high u) []
   unfolding walk
@@ -159,55 +157,55 @@ module _ {K : Type 0} (𝓚 : Kind K) (low high : K) where
   back x right = cond (goes_right x) (walk 𝓚.order 𝓚.key low high right) []
 
   -- the totals of the three parts
-  pub record Parts (p : Pool) (x : Node) (below own above : Total) : Type 0 where
-    pub by_front : (left : Tree) → Carries p x.left left → Totals (front x left) below
+  pub record Parts (mem : List Node) (x : Node) (below own above : Total) : Type 0 where
+    pub by_front : (left : Tree) → CarriesIn mem x.left left → Totals (front x left) below
     pub by-own : (nested : Tree) → Totals (here x nested) own
-    pub by-back : (right : Tree) → Carries p x.right right → Totals (back x right) above
+    pub by-back : (right : Tree) → CarriesIn mem x.right right → Totals (back x right) above
 
   -- from the totals of the two links that are walked
-  pub parts : (p : Pool) (x : Node) (l r : ℕ) (below own above : Total) → l ≡ cond (goes_left x) x.left 0 → r ≡ cond (goes_right x) x.right 0
-      → ((u : Tree) → Carries p l u → Totals (walk 𝓚.order 𝓚.key low high u) below) → ((nested : Tree) → Totals (here x nested) own)
-      → ((u : Tree) → Carries p r u → Totals (walk 𝓚.order 𝓚.key low high u) above) → Parts p x below own above
-  parts p x l r below own above le re f o b =
+  pub parts : (mem : List Node) (x : Node) (l r : ℕ) (below own above : Total) → l ≡ cond (goes_left x) x.left 0 → r ≡ cond (goes_right x) x.right 0
+      → ((u : Tree) → CarriesIn mem l u → Totals (walk 𝓚.order 𝓚.key low high u) below) → ((nested : Tree) → Totals (here x nested) own)
+      → ((u : Tree) → CarriesIn mem r u → Totals (walk 𝓚.order 𝓚.key low high u) above) → Parts mem x below own above
+  parts mem x l r below own above le re f o b =
       record {
-        by_front = λ left c. subst (λ (xs : List (Item K)). Totals xs below) (walk-side (goes_left x) left) (f _ (link-carries p (goes_left x) x.left l left le c));
+        by_front = λ left c. subst (λ (xs : List (Item K)). Totals xs below) (walk-side (goes_left x) left) (f _ (link-carries mem (goes_left x) x.left l left le c));
         by-own = o;
-        by-back = λ right c. subst (λ (xs : List (Item K)). Totals xs above) (walk-side (goes_right x) right) (b _ (link-carries p (goes_right x) x.right r right re c));
+        by-back = λ right c. subst (λ (xs : List (Item K)). Totals xs above) (walk-side (goes_right x) right) (b _ (link-carries mem (goes_right x) x.right r right re c));
       }
 
-  pub walk_none : (p : Pool) (n : ℕ) → n ≡ 0 → (r : Total) → Totals {K = K} [] r → (t : Tree) → Carries p n t → Totals (walk 𝓚.order 𝓚.key low high t) r
+  pub walk_none : (mem : List Node) (n : ℕ) → n ≡ 0 → (r : Total) → Totals {K = K} [] r → (t : Tree) → CarriesIn mem n t → Totals (walk 𝓚.order 𝓚.key low high t) r
   unfolding walk
-  walk_none p n z r none = by-none p n z (λ t. Totals (walk 𝓚.order 𝓚.key low high t) r) none
+  walk_none mem n z r none = by-none mem n z (λ t. Totals (walk 𝓚.order 𝓚.key low high t) r) none
 
-  module _ (p : Pool) (hs : List Held) (h : Holds p hs) (n : ℕ) (numbered : 0 < n) (x : Node) (is : x ≡ node_at (memory_of p) n) where
+  module _ (mem : List Node) (h : SoundMemory mem) (n : ℕ) (numbered : 0 < n) (x : Node) (is : x ≡ node_at mem n) where
     abbrev Some : Type 0
-    Some = (t : Tree) × Carries p n t × Asked t
+    Some = (t : Tree) × CarriesIn mem n t × Asked t
 
-    opened : Some → (nested : Tree) × (left : Tree) × (right : Tree) × CarriesLinks p x nested left right
+    opened : Some → (nested : Tree) × (left : Tree) × (right : Tree) × CarriesLinksIn mem x nested left right
         × (Balanced (fork_of x nested left right) × Asked left × Asked right)
     opened some =
-        let (nested, left, right, ls, asked) = parted p hs h n numbered x is Asked some in
+        let (nested, left, right, ls, asked) = parted mem h n numbered x is Asked some in
         let a = around 𝓚 (items 𝓚.key left) (item (𝓚.key x.key) x.word nested) (items 𝓚.key right) asked.1 in
         let m = all_split Modest (items 𝓚.key left) (item (𝓚.key x.key) x.word nested ∷ items 𝓚.key right) asked.2 in
         (nested, left, right, ls, (asked.0, (asked.0.3, a.front, m.0), (asked.0.4, a.back, m.1.1)))
 
-    pub to_front : (t : ℕ) → (node_at (memory_of p) n).height ≡ t → (l : ℕ) → l ≡ cond (goes_left x) x.left 0 → Some → Lower p t l
+    pub to_front : (t : ℕ) → (node_at mem n).height ≡ t → (l : ℕ) → l ≡ cond (goes_left x) x.left 0 → Some → Lower mem t l
     to_front t measured l e some =
         let (nested, left, right, ls, asked) = opened some in
-        lower p t x.left l (goes_left x) left e ls.by_left (left-falls p hs h n numbered x is t measured nested left right ls asked.0) asked.1
+        lower mem t x.left l (goes_left x) left e ls.by_left (left-falls mem h n numbered x is t measured nested left right ls asked.0) asked.1
 
-    pub to_back : (t : ℕ) → (node_at (memory_of p) n).height ≡ t → (r : ℕ) → r ≡ cond (goes_right x) x.right 0 → Some → Lower p t r
+    pub to_back : (t : ℕ) → (node_at mem n).height ≡ t → (r : ℕ) → r ≡ cond (goes_right x) x.right 0 → Some → Lower mem t r
     to_back t measured r e some =
         let (nested, left, right, ls, asked) = opened some in
-        lower p t x.right r (goes_right x) right e ls.by_right (right-falls p hs h n numbered x is t measured nested left right ls asked.0) asked.2
+        lower mem t x.right r (goes_right x) right e ls.by_right (right-falls mem h n numbered x is t measured nested left right ls asked.0) asked.2
 
-    summed : Some → (nested : Tree) × (left : Tree) × (right : Tree) × CarriesLinks p x nested left right × Summable (front x left ++ (here x nested ++ back x right))
+    summed : Some → (nested : Tree) × (left : Tree) × (right : Tree) × CarriesLinksIn mem x nested left right × Summable (front x left ++ (here x nested ++ back x right))
     unfolding walk
     summed (t, c, asked) =
-        parted p hs h n numbered x is (λ u. Summable (walk 𝓚.order 𝓚.key low high u))
-        (t, c, walk-summable 𝓚.order 𝓚.key low high t (few 𝓚 p hs h n t c asked.1) asked.2)
+        parted mem h n numbered x is (λ u. Summable (walk 𝓚.order 𝓚.key low high u))
+        (t, c, walk-summable 𝓚.order 𝓚.key low high t (few 𝓚 mem h n t c asked.1) asked.2)
 
-    module _ (below own above : Total) (parts : Parts p x below own above) where
+    module _ (below own above : Total) (parts : Parts mem x below own above) where
       -- the node's own total and the total above fit, and so do both with the total below
       pub inner-fits : Some → Fits own above
       inner-fits some =
@@ -215,7 +213,7 @@ module _ {K : Type 0} (𝓚 : Kind K) (low high : K) where
           plus-fits (here x nested) (back x right) own above (summable-back (front x left) _ s) (parts.by-own nested) (parts.by-back right ls.by_right)
 
       module _ (inner : Total) (count : inner.count ≡ own.count + above.count) (sum : inner.sum ≡ own.sum +ℤ above.sum) where
-        inner-totals : (nested right : Tree) → Carries p x.right right → Totals (here x nested ++ back x right) inner
+        inner-totals : (nested right : Tree) → CarriesIn mem x.right right → Totals (here x nested ++ back x right) inner
         inner-totals nested right c = plus-totals (here x nested) (back x right) own above inner (parts.by-own nested) (parts.by-back right c) count sum
 
         pub outer-fits : Some → Fits below inner
@@ -224,10 +222,10 @@ module _ {K : Type 0} (𝓚 : Kind K) (low high : K) where
             plus-fits (front x left) (here x nested ++ back x right) below inner s (parts.by_front left ls.by_left) (inner-totals nested right ls.by_right)
 
         pub walk-totals : (r : Total) → r.count ≡ below.count + inner.count → r.sum ≡ below.sum +ℤ inner.sum
-            → (t : Tree) → Carries p n t → Totals (walk 𝓚.order 𝓚.key low high t) r
+            → (t : Tree) → CarriesIn mem n t → Totals (walk 𝓚.order 𝓚.key low high t) r
         unfolding walk
         walk-totals r c s =
-            by-node p hs h n numbered x is (λ t. Totals (walk 𝓚.order 𝓚.key low high t) r) (λ nested left right ls.
+            by-node mem h n numbered x is (λ t. Totals (walk 𝓚.order 𝓚.key low high t) r) (λ nested left right ls.
             plus-totals (front x left) (here x nested ++ back x right) below inner r (parts.by_front left ls.by_left) (inner-totals nested right ls.by_right) c s)
 
 -- ---- the walk and the list
@@ -279,6 +277,6 @@ module _ {K : Type 0} (𝓚 : Kind K) (low high : K) where
       let back = back-part x ys _ a.above (walk-items right a.back) (𝓚.order x.key high) refl in
       rw (front, back) (ap (λ (zs : List (Item K)). filter test xs ++ zs) (own-part (test x) x (filter test ys)) ∙ sym (filter-append test xs (x ∷ ys)))
 
-  pub walk-listed : (p : Pool) (n : ℕ) (r : Total) → ((t : Tree) → Carries p n t → Totals (walk 𝓚.order 𝓚.key low high t) r)
-      → (t : Tree) → Carries p n t → Ascending 𝓚.order (items 𝓚.key t) → Totals (within 𝓚.order low high (items 𝓚.key t)) r
-  walk-listed p n r a t c asc = subst (λ (xs : List (Item K)). Totals xs r) (walk-items t asc) (a t c)
+  pub walk-listed : (mem : List Node) (n : ℕ) (r : Total) → ((t : Tree) → CarriesIn mem n t → Totals (walk 𝓚.order 𝓚.key low high t) r)
+      → (t : Tree) → CarriesIn mem n t → Ascending 𝓚.order (items 𝓚.key t) → Totals (within 𝓚.order low high (items 𝓚.key t)) r
+  walk-listed mem n r a t c asc = subst (λ (xs : List (Item K)). Totals xs r) (walk-items t asc) (a t c)

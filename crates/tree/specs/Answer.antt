@@ -1,14 +1,14 @@
 -- An answer given back from memory: which item it stands for, and that its nested link carries the item's tree.
-use Rattle.std.specs.Prelude.{◌≡◌, ℕ, ℤ, Some, None, Option}
+use Rattle.std.specs.Prelude.{◌≡◌, ℕ, List, ℤ, Some, None, Option}
 use Rattle.tree.specs.Shape.{Item}
-use Rattle.pool.specs.Held.{Carries}
-use Rattle.pool.specs.declared.pool.Pool.{Pool}
+use Rattle.pool.specs.Held.{CarriesIn}
+use Rattle.pool.specs.declared.node.Node.{Node}
 
-module _ {K V : Type 0} (p : Pool) (value : ℤ → ℕ → V) where
+module _ {K V : Type 0} (mem : List Node) (value : ℤ → ℕ → V) where
   -- the value v stands for the item: it has the item's word, and a link that carries the item's nested tree
   pub record StandsFor (x : Item K) (v : V) : Type 0 where
     pub link : ℕ
-    pub carried : Carries p link x.nested
+    pub carried : CarriesIn mem link x.nested
     pub value-is : v ≡ value x.word link
 
   -- the value of the item, or none where there is no item

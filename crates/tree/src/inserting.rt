@@ -3,7 +3,7 @@
 ghost use Rattle.std.specs.Prelude.{◌≡◌, ◌+◌, ◌*◌, ◌<◌, ◌≤◌, List, ◌∷◌, length};
 ghost use Rattle.pool.specs.Held.{Carries, Held, Holds, held};
 ghost use Rattle.pool.specs.Node.{node_at};
-ghost use Rattle.pool.specs.Sound.{memory_of, used_of};
+ghost use Rattle.pool.specs.Sound.{lender_of, memory_of, used_of};
 ghost use Rattle.pool.specs.Tree.{Tree, fork};
 ghost use Rattle.tree.specs.Append.{Behind};
 ghost use Rattle.tree.specs.Insert.{Present, compared, insert as inserted};
@@ -63,6 +63,7 @@ pub fn insert<K: Key, V: Value>(pool: &mut Pool<'_>, n: u16, key: K, value: V) -
     ensures appended { (t : Tree) → Carries pool.old n t → Behind (compared K.Key.key K.cmp key) t → used_of pool.new ≤ used_of pool.old + height t + 1 }
     ensures fresh { (node_at (memory_of pool.new) result).count ≡ 1 }
     ensures size { length (memory_of pool.new) ≡ length (memory_of pool.old) }
+    ensures lent { lender_of pool.new ≡ lender_of pool.old }
 {
     if n == 0 {
         return build(pool, entry(key, value));

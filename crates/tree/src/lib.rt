@@ -19,7 +19,7 @@ pub use key::Key;
 pub use laws::{laws_hold, worked_facts_hold};
 pub use lookup::{after, at_most, find, first, last};
 pub use range::{Total, total_between};
-pub use rebuild::stored_height;
+pub use rebuild::root_height;
 pub use removing::remove;
 pub use root::Root;
 pub use value::Value;

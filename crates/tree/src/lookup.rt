@@ -1,10 +1,8 @@
-//! Questions to a tree of ascending keys, answered on the way down. Each takes the pool and a root, as the changes of a tree
-//! do: a struct of both would hold the pool borrowed, and be made anew for each call.
+//! Questions to a tree of ascending keys, answered on the way down. Each takes the nodes of a pool and a root.
 
 ghost use Rattle.std.specs.Prelude.{◌≡◌, ◌↔◌, if◌then◌else◌, IfSome, IsNone, Some};
-ghost use Rattle.pool.specs.Held.{Carries};
+ghost use Rattle.pool.specs.Held.{CarriesIn};
 ghost use Rattle.pool.specs.Node.{node_at};
-ghost use Rattle.pool.specs.Sound.{memory_of};
 ghost use Rattle.pool.specs.Tree.{Tree};
 ghost use Rattle.std.specs.Option.{option_or};
 ghost use Rattle.std.specs.Ordering.{is_ge};
@@ -18,19 +16,19 @@ use crate::end::End;
 use crate::key::Key;
 use crate::place::{compare_at, is_before, side};
 use crate::value::Value;
-use pool::{Node, Pool};
+use pool::{Node, node_in};
 use std::cmp::Ordering;
 
 /// The node at the root of a tree, if it has one.
-pub(crate) fn top(pool: &Pool<'_>, root: u16) -> Option<Node>
-    requires { Readable pool.now root }
+pub(crate) fn top(nodes: &[Node], root: u16) -> Option<Node>
+    requires { Readable nodes.now root }
     ensures none { IsNone result ↔ (root ≡ 0) }
-    ensures some { IfSome result (λ node. node ≡ node_at (memory_of pool.now) root) }
+    ensures some { IfSome result (λ node. node ≡ node_at nodes.now root) }
 {
     if root == 0 {
         None
     } else {
-        Some(pool.node(root))
+        Some(node_in(nodes, root))
     }
 }
 
@@ -71,68 +69,68 @@ fn or_at_most<K: Key, V: Value>(
 }
 
 /// The value of the key.
-pub fn find<K: Key, V: Value>(pool: &Pool<'_>, root: u16, key: K) -> Option<V>
-    requires { Readable pool.now root }
-    ensures answered { (t : Tree) → Carries pool.now root t → GivenValue pool.now V.Value.value (find K.Key.key K.cmp key t) result }
-    ensures listed { (t : Tree) → Carries pool.now root t → Ascending K.cmp (items K.Key.key t) → GivenValue pool.now V.Value.value (item_at K.cmp key (items K.Key.key t)) result }
+pub fn find<K: Key, V: Value>(nodes: &[Node], root: u16, key: K) -> Option<V>
+    requires { Readable nodes.now root }
+    ensures answered { (t : Tree) → CarriesIn nodes.now root t → GivenValue nodes.now V.Value.value (find K.Key.key K.cmp key t) result }
+    ensures listed { (t : Tree) → CarriesIn nodes.now root t → Ascending K.cmp (items K.Key.key t) → GivenValue nodes.now V.Value.value (item_at K.cmp key (items K.Key.key t)) result }
 {
-    let node = top(pool, root)?;
+    let node = top(nodes, root)?;
     match compare_at(key, node) {
         Ordering::Equal => Some(value_of(node)),
-        unequal => find(pool, side(node, unequal), key),
+        unequal => find(nodes, side(node, unequal), key),
     }
 }
 
 /// The greatest key that is at most this one, with its value.
-pub fn at_most<K: Key, V: Value>(pool: &Pool<'_>, root: u16, key: K) -> Option<(K, V)>
-    requires { Readable pool.now root }
-    ensures answered { (t : Tree) → Carries pool.now root t → GivenItem pool.now V.Value.value (at_most K.Key.key K.cmp key t) result }
-    ensures listed { (t : Tree) → Carries pool.now root t → Ascending K.cmp (items K.Key.key t) → GivenItem pool.now V.Value.value (last_at_most K.cmp key (items K.Key.key t)) result }
+pub fn at_most<K: Key, V: Value>(nodes: &[Node], root: u16, key: K) -> Option<(K, V)>
+    requires { Readable nodes.now root }
+    ensures answered { (t : Tree) → CarriesIn nodes.now root t → GivenItem nodes.now V.Value.value (at_most K.Key.key K.cmp key t) result }
+    ensures listed { (t : Tree) → CarriesIn nodes.now root t → Ascending K.cmp (items K.Key.key t) → GivenItem nodes.now V.Value.value (last_at_most K.cmp key (items K.Key.key t)) result }
 {
-    let node = top(pool, root)?;
+    let node = top(nodes, root)?;
     let ordering = compare_at(key, node);
-    let found = at_most(pool, side(node, ordering), key);
+    let found = at_most(nodes, side(node, ordering), key);
     or_at_most(found, node, ordering)
 }
 
 /// The least key after this one, with its value.
-pub fn after<K: Key, V: Value>(pool: &Pool<'_>, root: u16, key: K) -> Option<(K, V)>
-    requires { Readable pool.now root }
-    ensures answered { (t : Tree) → Carries pool.now root t → GivenItem pool.now V.Value.value (after K.Key.key K.cmp key t) result }
-    ensures listed { (t : Tree) → Carries pool.now root t → Ascending K.cmp (items K.Key.key t) → GivenItem pool.now V.Value.value (first_after K.cmp key (items K.Key.key t)) result }
+pub fn after<K: Key, V: Value>(nodes: &[Node], root: u16, key: K) -> Option<(K, V)>
+    requires { Readable nodes.now root }
+    ensures answered { (t : Tree) → CarriesIn nodes.now root t → GivenItem nodes.now V.Value.value (after K.Key.key K.cmp key t) result }
+    ensures listed { (t : Tree) → CarriesIn nodes.now root t → Ascending K.cmp (items K.Key.key t) → GivenItem nodes.now V.Value.value (first_after K.cmp key (items K.Key.key t)) result }
 {
-    let node = top(pool, root)?;
+    let node = top(nodes, root)?;
     if is_before(key, node) {
-        or_item(after(pool, side(node, Ordering::Less), key), node)
+        or_item(after(nodes, side(node, Ordering::Less), key), node)
     } else {
-        after(pool, side(node, Ordering::Greater), key)
+        after(nodes, side(node, Ordering::Greater), key)
     }
 }
 
 /// The key at this end, with its value.
-fn outermost<K: Key, V: Value>(pool: &Pool<'_>, root: u16, end: End) -> Option<(K, V)>
-    requires { Readable pool.now root }
-    ensures answered { (t : Tree) → Carries pool.now root t → GivenItem pool.now V.Value.value (at_end end (first K.Key.key K.cmp t) (last K.Key.key K.cmp t)) result }
-    ensures listed { (t : Tree) → Carries pool.now root t → GivenItem pool.now V.Value.value (at_end end (first_of (items K.Key.key t)) (last_of (items K.Key.key t))) result }
+fn outermost<K: Key, V: Value>(nodes: &[Node], root: u16, end: End) -> Option<(K, V)>
+    requires { Readable nodes.now root }
+    ensures answered { (t : Tree) → CarriesIn nodes.now root t → GivenItem nodes.now V.Value.value (at_end end (first K.Key.key K.cmp t) (last K.Key.key K.cmp t)) result }
+    ensures listed { (t : Tree) → CarriesIn nodes.now root t → GivenItem nodes.now V.Value.value (at_end end (first_of (items K.Key.key t)) (last_of (items K.Key.key t))) result }
 {
-    let node = top(pool, root)?;
-    or_item(outermost(pool, end.side(node), end), node)
+    let node = top(nodes, root)?;
+    or_item(outermost(nodes, end.side(node), end), node)
 }
 
 /// The least key, with its value.
-pub fn first<K: Key, V: Value>(pool: &Pool<'_>, root: u16) -> Option<(K, V)>
-    requires { Readable pool.now root }
-    ensures answered { (t : Tree) → Carries pool.now root t → GivenItem pool.now V.Value.value (first K.Key.key K.cmp t) result }
-    ensures listed { (t : Tree) → Carries pool.now root t → GivenItem pool.now V.Value.value (first_of (items K.Key.key t)) result }
+pub fn first<K: Key, V: Value>(nodes: &[Node], root: u16) -> Option<(K, V)>
+    requires { Readable nodes.now root }
+    ensures answered { (t : Tree) → CarriesIn nodes.now root t → GivenItem nodes.now V.Value.value (first K.Key.key K.cmp t) result }
+    ensures listed { (t : Tree) → CarriesIn nodes.now root t → GivenItem nodes.now V.Value.value (first_of (items K.Key.key t)) result }
 {
-    outermost(pool, root, End::First)
+    outermost(nodes, root, End::First)
 }
 
 /// The greatest key, with its value.
-pub fn last<K: Key, V: Value>(pool: &Pool<'_>, root: u16) -> Option<(K, V)>
-    requires { Readable pool.now root }
-    ensures answered { (t : Tree) → Carries pool.now root t → GivenItem pool.now V.Value.value (last K.Key.key K.cmp t) result }
-    ensures listed { (t : Tree) → Carries pool.now root t → GivenItem pool.now V.Value.value (last_of (items K.Key.key t)) result }
+pub fn last<K: Key, V: Value>(nodes: &[Node], root: u16) -> Option<(K, V)>
+    requires { Readable nodes.now root }
+    ensures answered { (t : Tree) → CarriesIn nodes.now root t → GivenItem nodes.now V.Value.value (last K.Key.key K.cmp t) result }
+    ensures listed { (t : Tree) → CarriesIn nodes.now root t → GivenItem nodes.now V.Value.value (last_of (items K.Key.key t)) result }
 {
-    outermost(pool, root, End::Last)
+    outermost(nodes, root, End::Last)
 }

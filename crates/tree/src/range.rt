@@ -3,7 +3,7 @@
 ghost use Rattle.std.specs.Prelude.{◌≡◌, ◌+◌, ◌^◌, ◌<◌, List, [], ◌∷◌, pos, negsuc, ◌+ℤ◌, ◌≤ℤ◌, if◌then◌else◌};
 ghost use Rattle.std.specs.Ordering.{is_lt};
 ghost use Rattle.std.specs.List.{AllByRecursion};
-ghost use Rattle.pool.specs.Held.{Carries, Held, Holds};
+ghost use Rattle.pool.specs.Held.{CarriesIn, SoundMemory};
 ghost use Rattle.pool.specs.Tree.{Tree};
 ghost use Rattle.tree.specs.Range.{Modest, Totals, inside, walk, within};
 ghost use Rattle.tree.specs.Shape.{Ascending, Balanced, item, items};
@@ -11,7 +11,7 @@ ghost use Rattle.tree.specs.Shape.{Ascending, Balanced, item, items};
 use crate::key::Key;
 use crate::lookup::top;
 use crate::place::is_before;
-use pool::{Node, Pool};
+use pool::Node;
 use std::ops::Add;
 
 /// How many keys, and the sum of their words.
@@ -75,16 +75,16 @@ fn right_to<K: Key>(node: Node, high: K) -> u16
 /// `carried` asks all of one tree, and `Readable` does not say which tree it has.
 /// A side is walked only where it can have such keys. Each word is at most 1,000,000,000,000 either way,
 /// so that the sum is exact.
-pub fn total_between<K: Key>(pool: &Pool<'_>, root: u16, low: K, high: K) -> Total
-    requires held { (hs : List Held) × Holds pool.now hs }
-    requires carried { (t : Tree) × Carries pool.now root t × (Balanced t × Ascending K.cmp (items K.Key.key t) × AllByRecursion Modest (items K.Key.key t)) }
-    ensures answered { (t : Tree) → Carries pool.now root t → Totals (walk K.cmp K.Key.key low high t) result }
-    ensures listed { (t : Tree) → Carries pool.now root t → Ascending K.cmp (items K.Key.key t) → Totals (within K.cmp low high (items K.Key.key t)) result }
+pub fn total_between<K: Key>(nodes: &[Node], root: u16, low: K, high: K) -> Total
+    requires held { SoundMemory nodes.now }
+    requires carried { (t : Tree) × CarriesIn nodes.now root t × (Balanced t × Ascending K.cmp (items K.Key.key t) × AllByRecursion Modest (items K.Key.key t)) }
+    ensures answered { (t : Tree) → CarriesIn nodes.now root t → Totals (walk K.cmp K.Key.key low high t) result }
+    ensures listed { (t : Tree) → CarriesIn nodes.now root t → Ascending K.cmp (items K.Key.key t) → Totals (within K.cmp low high (items K.Key.key t)) result }
 {
-    let Some(node) = top(pool, root) else {
+    let Some(node) = top(nodes, root) else {
         return Total::default();
     };
-    let below = total_between(pool, left_from(node, low), low, high);
-    let above = total_between(pool, right_to(node, high), low, high);
+    let below = total_between(nodes, left_from(node, low), low, high);
+    let above = total_between(nodes, right_to(node, high), low, high);
     below + (own(node, low, high) + above)
 }

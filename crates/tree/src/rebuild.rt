@@ -2,9 +2,9 @@
 //! since it is what a caller has to look at: `Balanceable` speaks of the trees.
 
 ghost use Rattle.std.specs.Prelude.{◌≡◌, suc, ◌+◌, ◌<◌, ◌≤◌, max, List, ◌∷◌, length, nat_lt};
-ghost use Rattle.pool.specs.Held.{Carries, Held, Holds, held};
+ghost use Rattle.pool.specs.Held.{Carries, CarriesIn, Held, Holds, held};
 ghost use Rattle.pool.specs.Node.{node_at};
-ghost use Rattle.pool.specs.Sound.{memory_of, used_of};
+ghost use Rattle.pool.specs.Sound.{lender_of, memory_of, used_of};
 ghost use Rattle.pool.specs.Tree.{Tree};
 ghost use Rattle.tree.specs.Append.{LeansRight};
 ghost use Rattle.tree.specs.Ends.{at_end};
@@ -14,14 +14,22 @@ ghost use Rattle.tree.specs.Rebuild.{balance as balanced, node, rotate_double, r
 ghost use Rattle.tree.specs.Shape.{height};
 
 use crate::end::End;
-use pool::{Node, Pool};
+use pool::{Node, Pool, node_in};
 
 /// The height that the root of a tree stores; no node has height 0.
-pub fn stored_height(pool: &Pool<'_>, n: u16) -> u8
+pub fn root_height(nodes: &[Node], n: u16) -> u8
+    requires { (t : Tree) × CarriesIn nodes.now n t }
+    ensures { (t : Tree) → CarriesIn nodes.now n t → result ≡ height t }
+{
+    if n == 0 { 0 } else { node_in(nodes, n).height }
+}
+
+/// The height that a node of the pool stores.
+fn stored_height(pool: &Pool<'_>, n: u16) -> u8
     requires { (t : Tree) × Carries pool.now n t }
     ensures { (t : Tree) → Carries pool.now n t → result ≡ height t }
 {
-    if n == 0 { 0 } else { pool.node(n).height }
+    root_height(pool.nodes(), n)
 }
 
 /// The height of a node over two sides of these heights: one more than the greater.
@@ -40,6 +48,7 @@ pub(crate) fn build(pool: &mut Pool<'_>, root: Node) -> u16
     ensures used { used_of pool.new ≡ used_of pool.old + 1 }
     ensures fresh { (node_at (memory_of pool.new) result).count ≡ 1 }
     ensures size { length (memory_of pool.new) ≡ length (memory_of pool.old) }
+    ensures lent { lender_of pool.new ≡ lender_of pool.old }
 {
     let height = height_over(
         stored_height(pool, root.left),

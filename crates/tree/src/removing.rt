@@ -2,7 +2,7 @@
 
 ghost use Rattle.std.specs.Prelude.{◌≡◌, ℕ, ◌+◌, ◌*◌, ◌<◌, ◌≤◌, List, ◌∷◌, length, ℤ};
 ghost use Rattle.pool.specs.Held.{Carries, Held, Holds, held};
-ghost use Rattle.pool.specs.Sound.{memory_of, used_of};
+ghost use Rattle.pool.specs.Sound.{lender_of, memory_of, used_of};
 ghost use Rattle.pool.specs.Tree.{Tree, fork};
 ghost use Rattle.tree.specs.Insert.{compared};
 ghost use Rattle.tree.specs.Removable.{FirstTaken, Joinable, Leaving, Removable, leaving};
@@ -63,6 +63,7 @@ fn take_first(pool: &mut Pool<'_>, n: u16) -> First
     ensures owned { (key : Words) (word : ℤ) (tall : ℕ) (nested left right : Tree) (hs : List Held) → Holds pool.old (held n (fork key word tall nested left right) ∷ hs) → FirstTaken pool.new result.node result.rest (first_item key word nested left) (without_first key word nested left right) hs }
     ensures used { (t : Tree) → Carries pool.old n t → used_of pool.new + 3 ≤ used_of pool.old + 3 * height t }
     ensures size { length (memory_of pool.new) ≡ length (memory_of pool.old) }
+    ensures lent { lender_of pool.new ≡ lender_of pool.old }
 {
     let node = pool.take_apart(n);
     if node.left == 0 {
@@ -83,6 +84,7 @@ fn join(pool: &mut Pool<'_>, left: u16, right: u16) -> u16
     ensures used { (r : Tree) → Carries pool.old right r → used_of pool.new ≤ used_of pool.old + 3 * height r }
     ensures within { (l r : Tree) (hs : List Held) → Holds pool.old (held left l ∷ held right r ∷ hs) → used_of pool.new ≤ used_of pool.old + 3 * height r }
     ensures size { length (memory_of pool.new) ≡ length (memory_of pool.old) }
+    ensures lent { lender_of pool.new ≡ lender_of pool.old }
 {
     if left == 0 {
         return right;
@@ -100,6 +102,7 @@ fn join_sides(pool: &mut Pool<'_>, node: Node) -> u16
     ensures owned { (nested l r : Tree) (hs : List Held) → Holds pool.old (leaving node nested l r hs) → Holds pool.new (held result (joined l r) ∷ hs) }
     ensures used { (nested l r : Tree) (hs : List Held) → Holds pool.old (leaving node nested l r hs) → used_of pool.new ≤ used_of pool.old + 3 * height r }
     ensures size { length (memory_of pool.new) ≡ length (memory_of pool.old) }
+    ensures lent { lender_of pool.new ≡ lender_of pool.old }
 {
     pool.release(node.nested);
     join(pool, node.left, node.right)
@@ -112,6 +115,7 @@ pub fn remove<K: Key>(pool: &mut Pool<'_>, n: u16, key: K) -> u16
     ensures owned { (t : Tree) (hs : List Held) → Holds pool.old (held n t ∷ hs) → Holds pool.new (held result (removed (compared K.Key.key K.cmp key) t) ∷ hs) }
     ensures used { (t : Tree) → Carries pool.old n t → used_of pool.new ≤ used_of pool.old + 3 * height t }
     ensures size { length (memory_of pool.new) ≡ length (memory_of pool.old) }
+    ensures lent { lender_of pool.new ≡ lender_of pool.old }
 {
     if n == 0 {
         return 0;

@@ -3,7 +3,7 @@
 ghost use Rattle.std.specs.Prelude.{◌≡◌, ℕ, ◌+◌, ◌^◌, ◌<◌, ◌≤◌, List, ◌∷◌, length, ℤ};
 ghost use Rattle.pool.specs.Held.{Carries, CarriesLinks, Held, Holds, TakenApart, held};
 ghost use Rattle.pool.specs.Node.{node_at};
-ghost use Rattle.pool.specs.Sound.{memory_of, used_of};
+ghost use Rattle.pool.specs.Sound.{lender_of, memory_of, used_of};
 ghost use Rattle.pool.specs.Tree.{Tree, fork, fork_of};
 
 use crate::node::{Node, Words};
@@ -19,6 +19,7 @@ impl Pool<'_> {
         ensures used { used_of self.new ≡ used_of self.old + 1 }
         ensures fresh { (node_at (memory_of self.new) result).count ≡ 1 }
         ensures size { length (memory_of self.new) ≡ length (memory_of self.old) }
+        ensures lent { lender_of self.new ≡ lender_of self.old }
     {
         self.fill_first(contents)
     }
@@ -32,6 +33,7 @@ impl Pool<'_> {
         ensures kept { (m : ℕ) (t : Tree) → Carries self.old m t → Carries self.new m t }
         ensures used { used_of self.new ≡ used_of self.old }
         ensures size { length (memory_of self.new) ≡ length (memory_of self.old) }
+        ensures lent { lender_of self.new ≡ lender_of self.old }
     {
         if n != 0 {
             self.raise(n);
@@ -44,6 +46,7 @@ impl Pool<'_> {
         ensures owned { (nested left right : Tree) (hs : List Held) → Holds self.old hs → CarriesLinks self.old node nested left right → Holds self.new (held node.nested nested ∷ held node.left left ∷ held node.right right ∷ hs) }
         ensures used { used_of self.new ≡ used_of self.old }
         ensures size { length (memory_of self.new) ≡ length (memory_of self.old) }
+        ensures lent { lender_of self.new ≡ lender_of self.old }
     {
         self.retain(node.right);
         self.retain(node.left);
@@ -59,6 +62,7 @@ impl Pool<'_> {
         ensures shared { 1 < (node_at (memory_of self.old) n).count → used_of self.new ≡ used_of self.old }
         ensures last { (node_at (memory_of self.old) n).count ≡ 1 → used_of self.new < used_of self.old }
         ensures size { length (memory_of self.new) ≡ length (memory_of self.old) }
+        ensures lent { lender_of self.new ≡ lender_of self.old }
     {
         if n != 0 {
             let node = self.read(n);
@@ -78,6 +82,7 @@ impl Pool<'_> {
         ensures owned { (nested left right : Tree) (hs : List Held) → Holds self.old (held node.left left ∷ held node.nested nested ∷ held node.right right ∷ hs) → Holds self.new hs }
         ensures fewer { used_of self.new ≤ used_of self.old }
         ensures size { length (memory_of self.new) ≡ length (memory_of self.old) }
+        ensures lent { lender_of self.new ≡ lender_of self.old }
     {
         self.release(node.left);
         self.release(node.nested);
@@ -94,6 +99,7 @@ impl Pool<'_> {
         ensures shared { 1 < result.count → used_of self.new ≡ used_of self.old }
         ensures last { result.count ≡ 1 → used_of self.new + 1 ≡ used_of self.old }
         ensures size { length (memory_of self.new) ≡ length (memory_of self.old) }
+        ensures lent { lender_of self.new ≡ lender_of self.old }
     {
         let node = self.read(n);
         if node.is_shared() {

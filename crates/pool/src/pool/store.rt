@@ -5,13 +5,13 @@
 ghost use Rattle.std.specs.Prelude.{◌≡◌, ◌+◌, ◌-◌, ◌^◌, ◌<◌, ◌≤◌, length, slice_set};
 ghost use Rattle.pool.specs.Node.{free_node, node_at, with_count};
 ghost use Rattle.pool.specs.Puts.{Puts};
-ghost use Rattle.pool.specs.Sound.{memory_of, used_of};
+ghost use Rattle.pool.specs.Sound.{lender_of, memory_of, used_of};
 
 use crate::node::Node;
 use crate::pool::Pool;
 
 /// Nodes are numbered from 1.
-fn place(n: u16) -> usize
+pub(crate) fn place(n: u16) -> usize
     requires { 0 < n }
     ensures { result ≡ n - 1 }
 {
@@ -71,6 +71,7 @@ impl Pool<'_> {
         ensures free { self.new.free ≡ (node_at (memory_of self.old) self.old.free).key.low }
         ensures used { used_of self.new ≡ used_of self.old + 1 }
         ensures size { length (memory_of self.new) ≡ length (memory_of self.old) }
+        ensures lent { lender_of self.new ≡ lender_of self.old }
     {
         let n = self.free;
         let next = self.read(n).key.low as u16;
@@ -89,6 +90,7 @@ impl Pool<'_> {
         ensures free { self.new.free ≡ n }
         ensures used { used_of self.new ≡ used_of self.old - 1 }
         ensures size { length (memory_of self.new) ≡ length (memory_of self.old) }
+        ensures lent { lender_of self.new ≡ lender_of self.old }
     {
         let vacant = Node::vacant(self.free);
         self.put(n, vacant);

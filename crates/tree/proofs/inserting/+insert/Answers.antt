@@ -29,10 +29,11 @@ returns-then-n-eq0 g t c =
     record {
       owned = inserted-leaf _ _ _ c.if-n-eq0.true _ _ _ c.entry.ensures (compared g.K.Key.key g.K.Ord.cmp c.args.key) _ _ c.build.ensures.owned;
       used = λ u carries. omega (arith, c.build.ensures.used);
-      replaced = λ u carries there. absurd (none-present _ _ u _ c.if-n-eq0.true carries there);
+      replaced = λ u carries there. absurd (none-present c.args.pool.now _ u _ c.if-n-eq0.true carries there);
       appended = λ u carries behind. omega (arith, c.build.ensures.used);
       fresh = c.build.ensures.fresh;
       size = c.build.ensures.size;
+      lent = c.build.ensures.lent;
     }
 
 pub take_apart-node-requires : goal.take_apart-node-requires
@@ -108,6 +109,7 @@ returns-in-Less g t c =
           absurd (not_behind d.trees _ _ e.owned place less (whole-behind d.trees u carries place behind).0);
       fresh = c.balance.ensures.made.fresh;
       size = c.balance.ensures.made.size ∙ c.insert-left.ensures.size ∙ e.size;
+      lent = c.balance.ensures.made.lent ∙ c.insert-left.ensures.lent ∙ e.lent;
     }
 
 pub returns-in-Equal : goal.returns-in-Equal
@@ -124,6 +126,7 @@ returns-in-Equal g t c =
       appended = λ u carries behind. omega (arith, fewer, c.replace.ensures.made.used);
       fresh = c.replace.ensures.made.fresh;
       size = c.replace.ensures.made.size ∙ e.size;
+      lent = c.replace.ensures.made.lent ∙ e.lent;
     }
 
 pub returns-in-Greater : goal.returns-in-Greater
@@ -150,4 +153,5 @@ returns-in-Greater g t c =
           omega (arith, standing-height (standing d.trees) u carries, d.balanced.0, fewer, side, one);
       fresh = c.balance-in-Greater.ensures.made.fresh;
       size = c.balance-in-Greater.ensures.made.size ∙ c.insert-right.ensures.size ∙ e.size;
+      lent = c.balance-in-Greater.ensures.made.lent ∙ c.insert-right.ensures.lent ∙ e.lent;
     }

@@ -24,7 +24,7 @@ rotate-requires c =
     let b = c.requires.ready in
     let carries = left-carries _ c.args.root _ c.args.root.right b.nested b.l b.r b.others b.holds in
     let high = c.stored_height-before.ensures b.l carries in
-    record { ready = b; numbered = numbered-fork _ _ b.l carries (omega arith); room = c.requires.room }
+    record { ready = b; numbered = numbered-fork c.args.pool.now _ b.l carries (omega arith); room = c.requires.room }
 
 pub is_too_high-requires-else-is_too_high : goal.is_too_high-requires-else-is_too_high
 is_too_high-requires-else-is_too_high c =
@@ -37,7 +37,7 @@ rotate-requires-then-is_too_high-2 c =
     let b = c.requires.ready in
     let carries = right-carries _ c.args.root c.args.root.left _ b.nested b.l b.r b.others b.holds in
     let high = c.stored_height-behind.ensures b.r carries in
-    record { ready = b; numbered = numbered-fork _ _ b.r carries (omega arith); room = c.requires.room }
+    record { ready = b; numbered = numbered-fork c.args.pool.now _ b.r carries (omega arith); room = c.requires.room }
 
 pub build-requires : goal.build-requires
 build-requires c =
@@ -97,7 +97,7 @@ returns-else-is_too_high-2 c =
     let n = c.stored_height-behind.ensures in
     record {
       owned = balanced-level _ _ c.args.root _ _ _ _ m n low high _ c.build.ensures.owned;
-      made = record { used = omega (arith, c.build.ensures.used); fresh = c.build.ensures.fresh; size = c.build.ensures.size };
+      made = record { used = omega (arith, c.build.ensures.used); fresh = c.build.ensures.fresh; size = c.build.ensures.size; lent = c.build.ensures.lent };
       level = λ nested l r hs h by_left by_right. c.build.ensures.used;
       single = λ nested l r hs h high leans one. c.build.ensures.used;
     }

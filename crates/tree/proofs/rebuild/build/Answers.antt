@@ -31,4 +31,5 @@ returns c =
       used = c.take.ensures.used;
       fresh = c.take.ensures.fresh;
       size = c.take.ensures.size;
+      lent = c.take.ensures.lent;
     }

@@ -59,7 +59,7 @@ returns-then-is_double c =
     let g = c.rotate_double.ensures.made in
     record {
       owned = rotated-twice s _ _ c.stored_height.ensures c.stored_height-2.ensures _ _ c.turned.ensures.first c.turned.ensures.second test _ _ c.rotate_double.ensures.owned;
-      made = record { used = omega (arith, g.used); fresh = g.fresh; size = g.size ∙ e.size };
+      made = record { used = omega (arith, g.used); fresh = g.fresh; size = g.size ∙ e.size; lent = g.lent ∙ e.lent };
       single = λ is nested l r hs h leans one.
           absurd (omega (arith, test, leans-single s _ _ c.stored_height.ensures c.stored_height-2.ensures is nested l r hs h leans));
     }
@@ -74,6 +74,6 @@ returns-else-is_double c =
     record {
       owned = rotated-once s _ _ c.stored_height.ensures c.stored_height-2.ensures _ _ _ _ (ltb-false _ _ (sym c.is_double.ensures ∙ c.if-is_double.false))
           (joins c.args.end _ c.args.root _ _ _ c.over.ensures _ _ a.owned) (joins c.args.end _ c.take_apart-child.result _ _ _ c.over-else-is_double.ensures _ _ b.owned);
-      made = record { used = omega (arith, a.used, b.used); fresh = b.fresh; size = b.size ∙ a.size ∙ e.size };
+      made = record { used = omega (arith, a.used, b.used); fresh = b.fresh; size = b.size ∙ a.size ∙ e.size; lent = b.lent ∙ a.lent ∙ e.lent };
       single = λ is nested l r hs h leans one. omega (arith, a.used, b.used, last-less s is one);
     }

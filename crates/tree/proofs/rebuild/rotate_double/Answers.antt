@@ -69,5 +69,5 @@ returns c =
     let fewer = apart-fewer _ _ _ (used_of c.args.pool.now) (used_of c.take_apart-root.new.self) _ _ (middle-first d) (middle-numbered d) e.node e.shared e.last in
     record {
       owned = rotated-double _ _ _ _ _ c.args.lower c.args.upper c.take_apart-root.result _ _ _ _ _ _ (middle-numbered d) e.owned (puts node _ _ c.args.lower _ _ _ _ c.build-left.ensures.owned (search rules)) (puts node _ _ c.args.upper _ _ _ _ c.build-right.ensures.owned (search rules)) (puts node _ _ c.take_apart-root.result _ _ _ _ c.build.ensures.owned (search rules));
-      made = record { used = omega (arith, c.build-left.ensures.used, c.build-right.ensures.used, c.build.ensures.used); fresh = c.build.ensures.fresh; size = c.build.ensures.size ∙ c.build-right.ensures.size ∙ c.build-left.ensures.size ∙ e.size };
+      made = record { used = omega (arith, c.build-left.ensures.used, c.build-right.ensures.used, c.build.ensures.used); fresh = c.build.ensures.fresh; size = c.build.ensures.size ∙ c.build-right.ensures.size ∙ c.build-left.ensures.size ∙ e.size; lent = c.build.ensures.lent ∙ c.build-right.ensures.lent ∙ c.build-left.ensures.lent ∙ e.lent };
     }

@@ -14,6 +14,7 @@ returns-then-n-eq0 g t c =
       owned = removed-leaf (compared g.K.Key.key g.K.Ord.cmp c.args.key) _ _ c.if-n-eq0.true;
       used = λ u carries. omega arith;
       size = refl;
+      lent = refl;
     }
 
 pub take_apart-node-requires : goal.take_apart-node-requires
@@ -80,6 +81,7 @@ returns-in-Less g t c =
       owned = removed-less _ _ _ _ c.take_apart-node.result n e.owned _ _ _ _ less c.remove-left.ensures.owned (puts balance _ _ c.take_apart-node.result _ _ _ _ c.balance.ensures.owned (search rules));
       used = λ u carries. omega (arith, standing-height d.trees u carries, left-lower d.trees d.balanced, fewer, used, c.balance.ensures.made.used);
       size = c.balance.ensures.made.size ∙ c.remove-left.ensures.size ∙ e.size;
+      lent = c.balance.ensures.made.lent ∙ c.remove-left.ensures.lent ∙ e.lent;
     }
 
 pub returns-in-Equal : goal.returns-in-Equal
@@ -94,6 +96,7 @@ returns-in-Equal g t c =
       owned = removed-equal _ _ _ _ c.take_apart-node.result n e.owned _ _ equal c.join_sides.ensures.owned;
       used = λ u carries. omega (arith, standing-height d.trees u carries, right-lower d.trees d.balanced, fewer, used);
       size = c.join_sides.ensures.size ∙ e.size;
+      lent = c.join_sides.ensures.lent ∙ e.lent;
     }
 
 pub returns-in-Greater : goal.returns-in-Greater
@@ -108,4 +111,5 @@ returns-in-Greater g t c =
       owned = removed-greater _ _ _ _ c.take_apart-node.result n e.owned _ _ _ _ greater c.remove-right.ensures.owned (puts balance _ _ c.take_apart-node.result _ _ _ _ c.balance-in-Greater.ensures.owned (search rules));
       used = λ u carries. omega (arith, standing-height d.trees u carries, right-lower d.trees d.balanced, fewer, used, c.balance-in-Greater.ensures.made.used);
       size = c.balance-in-Greater.ensures.made.size ∙ c.remove-right.ensures.size ∙ e.size;
+      lent = c.balance-in-Greater.ensures.made.lent ∙ c.remove-right.ensures.lent ∙ e.lent;
     }

@@ -18,6 +18,7 @@ returns-then-node-eq0 t c =
       owned = first-here _ _ _ c.take_apart-node.result e.owned _ c.here.ensures c.if-node-eq0.true;
       used = λ u carries. omega (arith, fewer, standing-height d.trees u carries, d.balanced.0);
       size = e.size;
+      lent = e.lent;
     }
 
 pub take_first-lower-requires : goal.take_first-lower-requires
@@ -50,4 +51,5 @@ returns t c =
       owned = first-lower _ _ _ c.take_apart-node.result e.owned some _ c.take_first-lower.result.node _ c.take_first-lower.ensures.owned _ _ (rw c.under.ensures at c.balance-rest.ensures.owned);
       used = λ u carries. omega (arith, fewer, used, standing-height d.trees u carries, left-lower d.trees d.balanced, c.balance-rest.ensures.made.used);
       size = c.balance-rest.ensures.made.size ∙ c.take_first-lower.ensures.size ∙ e.size;
+      lent = c.balance-rest.ensures.made.lent ∙ c.take_first-lower.ensures.lent ∙ e.lent;
     }

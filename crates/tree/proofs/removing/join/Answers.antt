@@ -4,11 +4,11 @@ use Rattle.tree.proofs.removing.join.Goals as goal
 
 pub returns-then-left-eq0 : goal.returns-then-left-eq0
 returns-then-left-eq0 c =
-    record { owned = joined-right _ _ _ c.if-left-eq0.true; used = λ r carries. omega arith; within = λ l r hs h. omega arith; size = refl }
+    record { owned = joined-right _ _ _ c.if-left-eq0.true; used = λ r carries. omega arith; within = λ l r hs h. omega arith; size = refl; lent = refl }
 
 pub returns-then-right-eq0 : goal.returns-then-right-eq0
 returns-then-right-eq0 c =
-    record { owned = joined-left _ _ _ c.if-right-eq0.true; used = λ r carries. omega arith; within = λ l r hs h. omega arith; size = refl }
+    record { owned = joined-left _ _ _ c.if-right-eq0.true; used = λ r carries. omega arith; within = λ l r hs h. omega arith; size = refl; lent = refl }
 
 pub take_first-first-requires : goal.take_first-first-requires
 take_first-first-requires c = record { ready = right-goes _ _ _ c.requires.ready; numbered = omega (arith, c.if-right-eq0.false) }
@@ -31,4 +31,5 @@ returns c =
       used = λ r carries. omega (arith, f.used r carries, c.balance.ensures.made.used);
       within = λ l r hs h. omega (arith, f.used r (second-carries _ _ _ l r hs h), c.balance.ensures.made.used);
       size = c.balance.ensures.made.size ∙ f.size;
+      lent = c.balance.ensures.made.lent ∙ f.lent;
     }

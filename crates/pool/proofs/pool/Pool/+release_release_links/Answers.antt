@@ -37,6 +37,7 @@ release-returns-then-is_shared t c =
       shared = λ k. c.lower.ensures.used;
       last = λ k. omega (arith, k, ap (λ (x : Node). x.count) c.read-node.ensures);
       size = c.lower.ensures.size;
+      lent = c.lower.ensures.lent;
     }
 
 pub release-returns-else-is_shared : goal.release-returns-else-is_shared
@@ -53,6 +54,7 @@ release-returns-else-is_shared t c =
       shared = λ k. omega (arith, k, ap (λ (x : Node). x.count) c.read-node.ensures);
       last = λ k. less;
       size = c.release_links.ensures.size ∙ c.give_back.ensures.size;
+      lent = c.release_links.ensures.lent ∙ c.give_back.ensures.lent;
     }
 
 pub release-returns-else-n-ne0 : goal.release-returns-else-n-ne0
@@ -64,4 +66,5 @@ release-returns-else-n-ne0 t c =
       shared = λ k. refl;
       last = λ k. omega (arith, zero, used-numbered c.args.self.now.nodes.now c.args.n (omega arith));
       size = refl;
+      lent = refl;
     }

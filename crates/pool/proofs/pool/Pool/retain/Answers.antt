@@ -20,9 +20,10 @@ returns-then-n-ne0 c =
     record {
       owned = more;
       again = λ t hs h. more t _ h (held-carries _ _ t hs h);
-      kept = carries-recounted _ _ _ _ e.memory (omega arith) (c.requires.carried.1.kept n);
+      kept = carries-recounted c.args.self.now c.raise.new.self _ _ e.memory (omega arith) (c.requires.carried.1.kept n);
       used = e.used;
       size = e.size;
+      lent = e.lent;
     }
 
 pub returns-else-n-ne0 : goal.returns-else-n-ne0
@@ -33,4 +34,5 @@ returns-else-n-ne0 c =
       kept = λ m t h. h;
       used = refl;
       size = refl;
+      lent = refl;
     }

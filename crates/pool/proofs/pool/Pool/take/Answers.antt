@@ -14,4 +14,5 @@ returns c =
       used = e.used;
       fresh = took-fresh c.args.self.now c.fill_first.new.self c.fill_first.result c.args.contents _ e.node e.memory c.requires.room c.requires.held.4;
       size = e.size;
+      lent = e.lent;
     }

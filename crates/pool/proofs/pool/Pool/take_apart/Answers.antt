@@ -32,7 +32,7 @@ retain_links-requires c =
       f.2,
       c.requires.held.1,
       released _ _ _ e.memory e.free e.used _ c.read-node.ensures many _ _ f.3,
-      released-links _ _ _ e.memory e.free e.used _ c.read-node.ensures many _ _ _ f.0 f.1 f.2 _ f.3,
+      released-links c.args.self.now c.lower.new.self _ e.memory e.free e.used _ c.read-node.ensures many _ _ _ f.0 f.1 f.2 _ f.3,
       c.requires.held.3,
     )
 
@@ -45,10 +45,11 @@ returns-then-is_shared c =
       owned = λ key word height nested left right hs h.
           taken-apart _ _ _ _ c.read-node.ensures key word height nested left right hs h
           (holds-swapped _ _ _ _ (c.retain_links.ensures.owned nested left right hs (released _ _ _ e.memory e.free e.used _ c.read-node.ensures many _ _ h)
-          (released-links _ _ _ e.memory e.free e.used _ c.read-node.ensures many key word height nested left right hs h)));
+          (released-links c.args.self.now c.lower.new.self _ e.memory e.free e.used _ c.read-node.ensures many key word height nested left right hs h)));
       shared = λ k. c.retain_links.ensures.used ∙ e.used;
       last = λ k. omega arith;
       size = c.retain_links.ensures.size ∙ e.size;
+      lent = c.retain_links.ensures.lent ∙ e.lent;
     }
 
 pub returns-else-is_shared : goal.returns-else-is_shared
@@ -63,4 +64,5 @@ returns-else-is_shared c =
       shared = λ k. omega arith;
       last = λ k. omega (arith, e.used, held-some _ _ _ _ c.requires.held.2 c.requires.numbered);
       size = e.size;
+      lent = e.lent;
     }

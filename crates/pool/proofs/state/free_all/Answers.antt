@@ -2,7 +2,7 @@ use Rattle.std.proofs.Common.{◌≡◌, ℕ, ◌+◌, ◌-◌, set, sym, subst,
 use Rattle.pool.specs.declared.node.Node.{Node}
 use Rattle.pool.specs.FreeList.{FreePast}
 use Rattle.pool.proofs.Freeing.{free_more}
-use Rattle.pool.proofs.pool.make.free_all.Goals as goal
+use Rattle.pool.proofs.state.free_all.Goals as goal
 
 pub loop-i-preserved : goal.loop-i-preserved
 loop-i-preserved c =
