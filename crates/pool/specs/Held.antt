@@ -2,11 +2,12 @@
 use Rattle.std.specs.Prelude.{◌≡◌, ℕ, ◌<◌, List, ◌∷◌, map, ℤ}
 use Rattle.std.specs.List.{AllByRecursion}
 use Rattle.pool.specs.Node.{node_at}
-use Rattle.pool.specs.Sound.{SoundIn, memory_of}
+use Rattle.pool.specs.Sound.{SoundIn, memory_of, used_of}
 use Rattle.pool.specs.Tree.{Linked, Tree}
 use Rattle.pool.specs.declared.node.Node.{Node}
 use Rattle.pool.specs.declared.node.Words.{Words}
 use Rattle.pool.specs.declared.pool.Pool.{Pool}
+use Rattle.pool.specs.declared.state.PoolState.{PoolState}
 
 -- an outside owner: the node that it owns, and the tree that the node carries
 pub record Held : Type 0 where
@@ -26,6 +27,14 @@ Carried mem hs = AllByRecursion (λ h. Linked mem h.node h.tree) hs
 pub record HoldsIn (mem : List Node) (free used : ℕ) (hs : List Held) : Type 0 where
   pub sound : SoundIn mem free used (map node_of hs)
   pub carried : Carried mem hs
+
+-- of every pool that is made of these nodes and this state
+abbrev pub OfParts : List Node → PoolState → (Pool → Type 0) → Type 0
+OfParts mem state P = (p : Pool) → memory_of p ≡ mem → p.free ≡ state.free → used_of p ≡ state.used → P p
+
+-- these nodes, with this state, are held for just these outside owners
+abbrev pub HoldsBy : List Node → PoolState → List Held → Type 0
+HoldsBy mem state = HoldsIn mem state.free state.used
 
 unfoldable pub Holds : Pool → List Held → Type 0
 Holds p hs = HoldsIn p.nodes.now p.free p.used hs

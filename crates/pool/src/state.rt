@@ -1,13 +1,15 @@
 //! What a pool knows beside its nodes.
 
-ghost use Rattle.std.specs.Prelude.{◌≡◌, ℕ, ◌+◌, ◌≤◌, List, [], length};
+ghost use Rattle.std.specs.Prelude.{◌≡◌, ℕ, ◌+◌, ◌^◌, ◌<◌, ◌≤◌, List, [], ◌∷◌, length};
 ghost use Rattle.pool.specs.FreeList.{FreePast};
-ghost use Rattle.pool.specs.Held.{HoldsIn};
+ghost use Rattle.pool.specs.Held.{CarriesIn, Held, HoldsBy, HoldsIn, held};
 ghost use Rattle.pool.specs.Reached.{AccountedIn};
 ghost use Rattle.pool.specs.Sound.{SoundIn};
+ghost use Rattle.pool.specs.Tree.{Tree};
 ghost use Rattle.pool.specs.declared.node.Node.{Node as NodeIs};
 
 use crate::node::Node;
+use crate::pool::Pool;
 
 /// The first node of a free list, and how many nodes are in use. It goes with the memory of the nodes, of which and of this
 /// a pool is made for each change.
@@ -31,6 +33,31 @@ impl PoolState {
             free: free_all(nodes),
             used: 0,
         }
+    }
+
+    /// One owner more of the node n, which is in use; 0 is no node.
+    pub fn retain(&mut self, nodes: &mut [Node], n: u16)
+        requires held { (hs : List Held) × HoldsBy nodes.old self.old hs × (length hs < 2 ^ 31) }
+        requires carried { (t : Tree) × CarriesIn nodes.old n t }
+        ensures owned { (t : Tree) (hs : List Held) → HoldsBy nodes.old self.old hs → CarriesIn nodes.old n t → HoldsBy nodes.new self.new (held n t ∷ hs) }
+        ensures used { self.new.used ≡ self.old.used }
+        ensures size { length nodes.new ≡ length nodes.old }
+    {
+        let mut pool = Pool::over(nodes, *self);
+        pool.retain(n);
+        *self = pool.state();
+    }
+
+    /// One owner fewer of the node n; 0 is no node. The last owner gives the node back, and then its links.
+    pub fn release(&mut self, nodes: &mut [Node], n: u16)
+        requires { (t : Tree) × (hs : List Held) × HoldsBy nodes.old self.old (held n t ∷ hs) }
+        ensures owned { (t : Tree) (hs : List Held) → HoldsBy nodes.old self.old (held n t ∷ hs) → HoldsBy nodes.new self.new hs }
+        ensures fewer { self.new.used ≤ self.old.used }
+        ensures size { length nodes.new ≡ length nodes.old }
+    {
+        let mut pool = Pool::over(nodes, *self);
+        pool.release(n);
+        *self = pool.state();
     }
 
     /// How many nodes are in use: those that outside owners reach, and no others.

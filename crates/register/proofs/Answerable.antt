@@ -5,7 +5,7 @@ use Rattle.std.proofs.ByRecursion.{All-get_or}
 use Rattle.kinds.specs.Instant.{instant_of}
 use Rattle.kinds.specs.Packed.{name_of}
 use Rattle.kinds.specs.declared.name.Name.{Name}
-use Rattle.pool.proofs.Pools.{carries-links, held-carries}
+use Rattle.pool.proofs.Pools.{carries-links, held-carries, sound-memory}
 use Rattle.pool.specs.Held.{Carries, Held, Holds}
 use Rattle.pool.specs.Tree.{Tree, fork, leaf}
 use Rattle.pool.specs.declared.node.Words.{Words}
@@ -29,6 +29,7 @@ use Rattle.register.specs.Refusals.{first_of}
 use Rattle.register.specs.Shapes.{ByName, ByTime, Filed, LineWith, Nested, Ordered, SheetWith}
 use Rattle.register.specs.Shown.{Shown, at}
 use Rattle.register.specs.declared.refusal.Refusal.TheVariants.{NoSuchLine, NameBroken, TreeTooHigh, EndsCrossed}
+use Rattle.pool.specs.Sound.{memory_of}
 
 -- what holds of each nested tree, and of the leaf, holds of the one that a look up to a key finds
 nested-at-most : {K : Type 0} (R : Tree → Type 0) (key : Words → K) (order : K → K → Ordering) → R leaf → (k : K) (t : Tree) → Nested R t
@@ -58,7 +59,7 @@ leaf-borne p = (0, record { kept = λ h. absurd (omega arith); linked = refl })
 nested-borne : (p : Pool) (hs : List Held) → Holds p hs → (t : Tree) → Borne p t → Nested (Borne p) t
 nested-borne p hs h leaf b = tt
 nested-borne p hs h (fork key word tall nested left right) (n, c) =
-    let ls = carries-links p hs n key word tall nested left right h c in (
+    let ls = carries-links (memory_of p) n key word tall nested left right (sound-memory p hs h) c in (
       (_, ls.by_nested),
       nested-borne p hs h left (_, ls.by_left),
       nested-borne p hs h right (_, ls.by_right),

@@ -6,7 +6,7 @@ use Rattle.std.specs.List.{AllByRecursion}
 use Rattle.kinds.specs.declared.instant.Instant.{Instant}
 use Rattle.pool.proofs.Pools.{held-carries, holds-nothing}
 use Rattle.pool.proofs.Reorder.{holds-swapped}
-use Rattle.pool.specs.Held.{Carries, Held, Holds, held}
+use Rattle.pool.specs.Held.{Carries, CarriesIn, Held, Holds, held}
 use Rattle.pool.specs.Sound.{memory_of, used_of}
 use Rattle.pool.specs.Tree.{Tree, leaf}
 use Rattle.pool.specs.declared.pool.Pool.{Pool}
@@ -34,37 +34,38 @@ use Rattle.register.specs.declared.refusal.Refusal.{Refusal}
 use Rattle.register.specs.declared.refusal.Refusal.TheVariants.{NoSuchLine, NotLater, TreeTooHigh}
 use Rattle.register.specs.declared.table.Record.{Record}
 use Rattle.register.specs.declared.table.State.TheVariants.{AtRest, Sitting}
+use Rattle.pool.specs.declared.node.Node.{Node}
 
 -- ---- what was found in the line
 
 abbrev pub root_value : ℤ → ℕ → Root
 root_value word link = record { link = link }
 
-given-late : (p : Pool) (recorded : ℕ) (o : Option (Item Instant)) (stage : Option (Instant × Root)) → GivenItem p root_value o stage
+given-late : (mem : List Node) (recorded : ℕ) (o : Option (Item Instant)) (stage : Option (Instant × Root)) → GivenItem mem root_value o stage
     → not_after_stage recorded stage ≡ not_after_item recorded o
-given-late p recorded None None g = refl
-given-late p recorded None (Some stage) g = elim g [ ]
-given-late p recorded (Some x) None g = elim g [ ]
-given-late p recorded (Some x) (Some stage) g = ap (λ (i : Instant). leb recorded i.seconds) g.0
+given-late mem recorded None None g = refl
+given-late mem recorded None (Some stage) g = elim g [ ]
+given-late mem recorded (Some x) None g = elim g [ ]
+given-late mem recorded (Some x) (Some stage) g = ap (λ (i : Instant). leb recorded i.seconds) g.0
 
-pub given-sheet : (p : Pool) (o : Option (Item Instant)) (stage : Option (Instant × Root)) → GivenItem p root_value o stage → Carries p (sheet_in stage) (nested_in o)
-given-sheet p None (Some stage) g = elim g [ ]
-given-sheet p (Some x) None g = elim g [ ]
-given-sheet p None None g = record { kept = λ h. absurd (omega arith); linked = refl }
-given-sheet p (Some x) (Some stage) g =
-    subst (λ (r : Root). Carries p r.link x.nested) (sym g.1.value-is) g.1.carried
+pub given-sheet : (mem : List Node) (o : Option (Item Instant)) (stage : Option (Instant × Root)) → GivenItem mem root_value o stage → CarriesIn mem (sheet_in stage) (nested_in o)
+given-sheet mem None (Some stage) g = elim g [ ]
+given-sheet mem (Some x) None g = elim g [ ]
+given-sheet mem None None g = record { kept = λ h. absurd (omega arith); linked = refl }
+given-sheet mem (Some x) (Some stage) g =
+    subst (λ (r : Root). CarriesIn mem r.link x.nested) (sym g.1.value-is) g.1.carried
 
-module _ (p : Pool) (t : Tree) (recorded : ℕ) (stage : Option (Instant × Root)) (given : GivenItem p root_value (last instant_at earlier t) stage) where
-  pub begin-late : not_after_stage recorded stage ≡ true → SheetBefore p t recorded (Err NotLater)
-  begin-late late = rw (sym (given-late p recorded (last instant_at earlier t) stage given) ∙ late)
+module _ (mem : List Node) (t : Tree) (recorded : ℕ) (stage : Option (Instant × Root)) (given : GivenItem mem root_value (last instant_at earlier t) stage) where
+  pub begin-late : not_after_stage recorded stage ≡ true → SheetBefore mem t recorded (Err NotLater)
+  begin-late late = rw (sym (given-late mem recorded (last instant_at earlier t) stage given) ∙ late)
 
-  pub begin-high : not_after_stage recorded stage ≡ false → 24 < height t → SheetBefore p t recorded (Err TreeTooHigh)
-  begin-high later high = rw (sym (given-late p recorded (last instant_at earlier t) stage given) ∙ later, lt-ltb 24 (height t) high)
+  pub begin-high : not_after_stage recorded stage ≡ false → 24 < height t → SheetBefore mem t recorded (Err TreeTooHigh)
+  begin-high later high = rw (sym (given-late mem recorded (last instant_at earlier t) stage given) ∙ later, lt-ltb 24 (height t) high)
 
-  pub begin-on : (sheet : ℕ) → sheet ≡ sheet_in stage → not_after_stage recorded stage ≡ false → height t ≤ 24 → SheetBefore p t recorded (Ok sheet)
+  pub begin-on : (sheet : ℕ) → sheet ≡ sheet_in stage → not_after_stage recorded stage ≡ false → height t ≤ 24 → SheetBefore mem t recorded (Ok sheet)
   begin-on sheet is later low = (
-    rw (sym (given-late p recorded (last instant_at earlier t) stage given) ∙ later, le-ltb 24 (height t) low),
-    subst (λ (n : ℕ). Carries p n (last_sheet t)) (sym is) (given-sheet p (last instant_at earlier t) stage given),
+    rw (sym (given-late mem recorded (last instant_at earlier t) stage given) ∙ later, le-ltb 24 (height t) low),
+    subst (λ (n : ℕ). CarriesIn mem n (last_sheet t)) (sym is) (given-sheet mem (last instant_at earlier t) stage given),
   )
 
 -- ---- the sitting
@@ -108,13 +109,13 @@ module _ (p : Pool) (ls : List (Option Record)) (place serial : ℕ) (r : Option
         let here = place-of s.places place serial at.stages resting at.here in
         rw (here, late-same 𝓝 at.stages.tree)
 
-    pub unlater : {K : Type 0} (𝓝 : Names K) (next : ℕ) (why : Refusal) → ((t : Tree) → Carries p (root_in r) t → SheetBefore p t recorded (Err why))
+    pub unlater : {K : Type 0} (𝓝 : Names K) (next : ℕ) (why : Refusal) → ((t : Tree) → Carries p (root_in r) t → SheetBefore (memory_of p) t recorded (Err why))
         → (s : Shown) → Shows 𝓝 p ls next s → (s' : Shown) × Shows 𝓝 p ls next s' × Step 𝓝 s (begins handle recorded) (refused why) s'
     unlater 𝓝 next why found =
         refuses 𝓝 p ls next (begins handle recorded) why
         (λ s shows. begin-declined 𝓝 next s shows ∙ found _ (line-carried s.places shows.kept))
 
-    module _ (sheet : ℕ) (found : (t : Tree) → Carries p (root_in r) t → SheetBefore p t recorded (Ok sheet)) where
+    module _ (sheet : ℕ) (found : (t : Tree) → Carries p (root_in r) t → SheetBefore (memory_of p) t recorded (Ok sheet)) where
       pub sheet-carried : (xs : List Place) (k : Kept p ls xs) → Carries p sheet (last_sheet (tree_of xs k))
       sheet-carried xs k = (found _ (line-carried xs k)).1
 

@@ -5,7 +5,7 @@ use Rattle.pool.proofs.Pools.{holds-in}
 use Rattle.pool.proofs.Reached.{accounted}
 use Rattle.pool.specs.Held.{Held, Holds, node_of}
 use Rattle.pool.specs.Reached.{Accounted}
-use Rattle.pool.specs.Sound.{Sound}
+use Rattle.pool.specs.Sound.{memory_of, used_of}
 use Rattle.pool.specs.declared.pool.Pool.{Pool}
 use Rattle.register.proofs.Splitting.{by-step, follows-back}
 use Rattle.register.specs.Answering.{is_answer}
@@ -21,8 +21,7 @@ use Rattle.register.specs.declared.refusal.Refusal.{Refusal}
 -- ---- the memory
 
 pub memory-accounted : (p : Pool) (hs : List Held) → Holds p hs → Accounted p (map node_of hs)
-unfolding Sound
-memory-accounted p hs h = accounted p (map node_of hs) (holds-in p hs h).sound
+memory-accounted p hs h = accounted (memory_of p) p.free (used_of p) (map node_of hs) (holds-in p hs h).sound
 
 module _ {K : Type 0} (𝓝 : Names K) where
   pub turns-accounted : (s : Shown) (turns : List Turn) → Follows 𝓝 s turns → AllByRecursion (λ t. Accounted t.pool (map node_of (owners_of t.after.places))) turns

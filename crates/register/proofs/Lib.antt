@@ -3,6 +3,7 @@ pub mod Owning
 pub mod Keeping
 pub mod Changing
 pub mod Telling
+pub mod Memory
 pub mod Retiring
 pub mod Vacancies
 pub mod Opening

@@ -28,6 +28,7 @@ use Rattle.register.specs.Contents.{Card, Names, Sheet, card_of, earlier, instan
 use Rattle.register.specs.Found.{sheet_up_to}
 use Rattle.register.specs.History.{sum_of}
 use Rattle.register.specs.Shapes.{ByTime}
+use Rattle.pool.specs.declared.node.Node.{Node}
 
 le-nat_cmp : (a b : ℕ) → is_le (nat_cmp a b) ≡ leb a b
 le-nat_cmp a b = grind (arith, nat_tests)
@@ -89,22 +90,22 @@ found_all P at (y ∷ ys) a x e = one (earlier y.key at) (last_at_most earlier a
     one Equal None f e = let g : y ≡ x = cc in subst P g a.0
     one Greater None f e = absurd (let z : ◌≡◌ {A = ℕ} 0 1 = cc in omega arith)
 
-given-reading : (p : Pool) (o : Option (Item Instant)) (r : Option (Instant × Reading)) → GivenItem p reading_value o r → ((x : Item Instant) → o ≡ Some x → Modest x)
+given-reading : (mem : List Node) (o : Option (Item Instant)) (r : Option (Instant × Reading)) → GivenItem mem reading_value o r → ((x : Item Instant) → o ≡ Some x → Modest x)
     → option_map plain r ≡ option_map reading_of o
-given-reading p None None g m = refl
-given-reading p None (Some r) g m = elim g [ ]
-given-reading p (Some x) None g m = elim g [ ]
-given-reading p (Some x) (Some r) g m =
+given-reading mem None None g m = refl
+given-reading mem None (Some r) g m = elim g [ ]
+given-reading mem (Some x) None g m = elim g [ ]
+given-reading mem (Some x) (Some r) g m =
     let instant : r.0 ≡ x.key = g.0 in
     let reading : r.1 ≡ reading_from x.word = g.1.value-is in
     let same : r.1.microhertz ≡ x.word = ap (λ (y : Reading). y.microhertz) reading ∙ nearest-same x.word (m x refl) in
     λ i. Some ((instant i).seconds, same i)
 
-pub reading-found : (p : Pool) (at : Instant) (t : Tree) (r : Option (Instant × Reading)) → AllByRecursion Modest (items instant_at t)
-    → GivenItem p reading_value (last_at_most earlier at (items instant_at t)) r → option_map plain r ≡ last_up_to at.seconds (card_of t)
+pub reading-found : (mem : List Node) (at : Instant) (t : Tree) (r : Option (Instant × Reading)) → AllByRecursion Modest (items instant_at t)
+    → GivenItem mem reading_value (last_at_most earlier at (items instant_at t)) r → option_map plain r ≡ last_up_to at.seconds (card_of t)
 unfolding card_of
-reading-found p at t r modest given =
-    given-reading p (last_at_most earlier at (items instant_at t)) r given (λ x e. found_all Modest at (items instant_at t) modest x e)
+reading-found mem at t r modest given =
+    given-reading mem (last_at_most earlier at (items instant_at t)) r given (λ x e. found_all Modest at (items instant_at t) modest x e)
     ∙ sym (last-up-to (λ x. x.word) at (items instant_at t))
 
 -- ---- a total

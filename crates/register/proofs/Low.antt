@@ -9,6 +9,8 @@ use Rattle.tree.proofs.Counting.{few}
 use Rattle.tree.specs.Kind.{Kind}
 use Rattle.tree.specs.Shape.{Ascending, Balanced, Item, height, item, items}
 use Rattle.register.specs.Declined.{too_high}
+use Rattle.pool.specs.Sound.{memory_of}
+use Rattle.pool.proofs.Pools.{sound-memory}
 
 -- the k-th number of a row in which each is the sum of the two before it
 abbrev row : ℕ → ℕ → ℕ → ℕ
@@ -74,6 +76,6 @@ low 𝓚 p hs h n t c b a =
     elim (cases_lt 24 (height t)) [
       | inl high ↦ absurd (
           let bound : least 25 ≡ 196418 = refl in
-          omega (arith, bound, least-up 25 (height t) (omega arith), many 𝓚.key t b, few 𝓚 p hs h n t c a))
+          omega (arith, bound, least-up 25 (height t) (omega arith), many 𝓚.key t b, few 𝓚 (memory_of p) (sound-memory p hs h) n t c a))
       | inr l ↦ le-ltb 24 (height t) l
     ]

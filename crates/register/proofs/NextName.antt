@@ -3,7 +3,7 @@ use Rattle.std.proofs.Common.{◌≡◌, ℕ, ◌<◌, Bool, true, false, cond, 
 use Rattle.std.specs.Option.{option_map}
 use Rattle.kinds.specs.Packed.{bytes_of}
 use Rattle.kinds.specs.declared.instant.Instant.{Instant}
-use Rattle.pool.specs.Held.{Carries}
+use Rattle.pool.specs.Held.{Carries, CarriesIn}
 use Rattle.pool.specs.Tree.{Tree}
 use Rattle.pool.specs.declared.pool.Pool.{Pool}
 use Rattle.tree.specs.Shape.{Balanced}
@@ -22,11 +22,13 @@ use Rattle.register.specs.Steps.{Step}
 use Rattle.register.specs.declared.refusal.Refusal.{Refusal}
 use Rattle.register.specs.declared.refusal.Refusal.TheVariants.{NameBroken, TreeTooHigh}
 use Rattle.register.specs.declared.table.Record.{Record}
+use Rattle.pool.specs.Sound.{memory_of}
+use Rattle.pool.specs.declared.node.Node.{Node}
 
 -- the sheet that is found is balanced
-pub sheet-ready : (p : Pool) (root : ℕ) (recorded : Instant) (n : ℕ) → ((t : Tree) → Carries p root t → SheetFound p t recorded (Ok n)) → LineReady p (Ok root)
-    → (t : Tree) × Carries p n t × Balanced t
-sheet-ready p root recorded n found (t, carries, l) = (_, (found t carries).1, (sheet-of-line recorded t l).sheet)
+pub sheet-ready : (mem : List Node) (root : ℕ) (recorded : Instant) (n : ℕ) → ((t : Tree) → CarriesIn mem root t → SheetFound mem t recorded (Ok n)) → LineReady mem (Ok root)
+    → (t : Tree) × CarriesIn mem n t × Balanced t
+sheet-ready mem root recorded n found (t, carries, l) = (_, (found t carries).1, (sheet-of-line recorded t l).sheet)
 
 module _ {K : Type 0} (𝓝 : Names K) (p : Pool) (ls : List (Option Record)) (next-serial : ℕ) (s : Shown) (shows : Shows 𝓝 p ls next-serial s) (handle : Handle) (recorded : ℕ)
     (given : Option (List ℕ)) where
@@ -36,10 +38,10 @@ module _ {K : Type 0} (𝓝 : Names K) (p : Pool) (ls : List (Option Record)) (n
   abbrev line : Tree
   line = (stages_at (at s handle)).tree
 
-  pub no_line : (why : Refusal) → RestTold p s handle (Err why) → Step 𝓝 s call (refused why) s
+  pub no_line : (why : Refusal) → RestTold (memory_of p) s handle (Err why) → Step 𝓝 s call (refused why) s
   no_line why (absent, is) = refuses-same 𝓝 s call why (rw absent (ap Some (sym is)))
 
-  module _ (root : ℕ) (rest : RestTold p s handle (Ok root)) where
+  module _ (root : ℕ) (rest : RestTold (memory_of p) s handle (Ok root)) where
     pub no_name : misnamed (next_name given) ≡ true → Step 𝓝 s call (refused NameBroken) s
     no_name broken = let here = rest.0 in refuses-same 𝓝 s call NameBroken (rw (here, broken))
 
@@ -47,12 +49,12 @@ module _ {K : Type 0} (𝓝 : Names K) (p : Pool) (ls : List (Option Record)) (n
       refusal_is : declined 𝓝 s call ≡ cond (too_high line || too_high (sheet_up_to when line)) (Some TreeTooHigh) None
       refusal_is = let here = rest.0 in rw (here, lawful, instant-is when recorded when-is)
 
-      pub too-high : (why : Refusal) → ((t : Tree) → Carries p root t → SheetFound p t when (Err why)) → Step 𝓝 s call (refused why) s
+      pub too-high : (why : Refusal) → ((t : Tree) → Carries p root t → SheetFound (memory_of p) t when (Err why)) → Step 𝓝 s call (refused why) s
       too-high why found =
           let (high, is) = found line rest.1 in
           refuses-same 𝓝 s call why (refusal_is ∙ ap (λ (b : Bool). cond b (Some TreeTooHigh) None) high ∙ ap Some (sym is))
 
-      module _ (n : ℕ) (found : (t : Tree) → Carries p root t → SheetFound p t when (Ok n)) where
+      module _ (n : ℕ) (found : (t : Tree) → Carries p root t → SheetFound (memory_of p) t when (Ok n)) where
         pub sheet-there : Carries p n (sheet_up_to when line)
         sheet-there = (found line rest.1).1
 

@@ -1,10 +1,10 @@
--- A pool with its owners, in which a node carries a balanced tree, can be asked.
+-- A sound memory, in which a node carries a balanced tree, can be asked.
 use Rattle.std.proofs.Common.{ℕ, List}
-use Rattle.pool.specs.Held.{Carries, Held, Holds}
+use Rattle.pool.specs.Held.{CarriesIn, SoundMemory}
 use Rattle.pool.specs.Tree.{Tree}
-use Rattle.pool.specs.declared.pool.Pool.{Pool}
+use Rattle.pool.specs.declared.node.Node.{Node}
 use Rattle.tree.specs.Readable.{Readable}
 use Rattle.tree.specs.Shape.{Balanced}
 
-pub readable : (p : Pool) (hs : List Held) (n : ℕ) → Holds p hs → (t : Tree) × Carries p n t × Balanced t → Readable p n
-readable p hs n holds (t, carries, balanced) = record { owners = hs; held = holds; tree = t; carried = carries; balanced = balanced }
+pub readable : (mem : List Node) (n : ℕ) → SoundMemory mem → (t : Tree) × CarriesIn mem n t × Balanced t → Readable mem n
+readable mem n sound (t, carries, balanced) = record { sound = sound; tree = t; carried = carries; balanced = balanced }

@@ -38,6 +38,7 @@ use Rattle.register.specs.Steps.{Accepted, Step, Unless}
 use Rattle.register.specs.declared.refusal.Refusal.{Refusal}
 use Rattle.register.specs.declared.refusal.Refusal.TheVariants.{EndsCrossed, NameBroken, NoSuchLine, TreeTooHigh}
 use Rattle.register.specs.declared.table.Record.{Record}
+use Rattle.pool.specs.Sound.{memory_of}
 
 -- a declined question
 pub refuses-same : {K : Type 0} (𝓝 : Names K) (s : Shown) (call : Call) (why : Refusal) → declined 𝓝 s call ≡ Some why → Step 𝓝 s call (refused why) s
@@ -110,17 +111,17 @@ module _ {K : Type 0} (𝓚 : Kind K) (named : Name → K) (called : K → Name)
       card-at 𝓚 named called (named (name_of bytes)) (sheet_tree_as_of recorded line) (sheet-ordered 𝓝 (instant_of recorded) line ordered-line)
       ∙ ap (card_at 𝓝 (key_of 𝓝 bytes)) (sym (sheet-shown 𝓝 recorded small line ordered-line.line))
 
-  module _ (n : ℕ) (told : CardTold 𝓝 p s handle recorded bytes (Ok n)) (ready : CardReady p (Ok n)) where
+  module _ (n : ℕ) (told : CardTold 𝓝 (memory_of p) s handle recorded bytes (Ok n)) (ready : CardReady (memory_of p) (Ok n)) where
     card-filed : Filed card
     card-filed = subst Filed (carries-unique p n ready.0 card ready.1 told.1) ready.2
 
     pub as-of-answered : (measured : Instant) (m : ℕ) → measured.seconds ≡ m → (r : Option (Instant × Reading))
-        → ((t : Tree) → Carries p n t → Ascending earlier (items instant_at t) → GivenItem p reading_value (last_at_most earlier measured (items instant_at t)) r)
+        → ((t : Tree) → Carries p n t → Ascending earlier (items instant_at t) → GivenItem (memory_of p) reading_value (last_at_most earlier measured (items instant_at t)) r)
         → Step 𝓝 s (asks handle recorded (as_of bytes m)) (found (option_map plain r)) s
     as-of-answered measured m is r listed =
         let given = listed card told.1 card-filed.by_time in
         let value : option_map plain r ≡ last_up_to m (card_at 𝓝 (key_of 𝓝 bytes) (sheet_as_of recorded (stages_of 𝓝 line))) =
-        reading-found p measured card r card-filed.modest given ∙ (λ i. last_up_to (is i) (card-shown i)) in
+        reading-found (memory_of p) measured card r card-filed.modest given ∙ (λ i. last_up_to (is i) (card-shown i)) in
         accepted 𝓝 s s (asks handle recorded (as_of bytes m)) _ told.0 (ap found value, refl)
 
     pub crossed : (from to : ℕ) → to < from → Step 𝓝 s (asks handle recorded (total bytes from to)) (refused EndsCrossed) s
@@ -140,8 +141,8 @@ module _ {K : Type 0} (𝓚 : Kind K) (named : Name → K) (called : K → Name)
           refl,
         )
 
-  pub as-of-declined : (why : Refusal) (m : ℕ) → CardTold 𝓝 p s handle recorded bytes (Err why) → Step 𝓝 s (asks handle recorded (as_of bytes m)) (refused why) s
+  pub as-of-declined : (why : Refusal) (m : ℕ) → CardTold 𝓝 (memory_of p) s handle recorded bytes (Err why) → Step 𝓝 s (asks handle recorded (as_of bytes m)) (refused why) s
   as-of-declined why m told = refuses-same 𝓝 s (asks handle recorded (as_of bytes m)) why told
 
-  pub total-declined : (why : Refusal) (from to : ℕ) → CardTold 𝓝 p s handle recorded bytes (Err why) → Step 𝓝 s (asks handle recorded (total bytes from to)) (refused why) s
+  pub total-declined : (why : Refusal) (from to : ℕ) → CardTold 𝓝 (memory_of p) s handle recorded bytes (Err why) → Step 𝓝 s (asks handle recorded (total bytes from to)) (refused why) s
   total-declined why from to told = refuses-same 𝓝 s (asks handle recorded (total bytes from to)) why (earlier-row unrested broken high (ltb to from) why told)

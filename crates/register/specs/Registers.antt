@@ -1,15 +1,27 @@
 -- What a call on a register tells: whatever the register shows before it, the call is a step from there to what it shows after it.
-use Rattle.std.specs.Prelude.{◌≡◌, Ok, Err, Result}
+use Rattle.std.specs.Prelude.{◌≡◌, drop, Ok, Err, Result}
+use Rattle.pool.specs.declared.pool.Pool.{Pool}
 use Rattle.register.specs.Calls.{Answer, Call, Handle, Line, Sitting, line_handle, sitting_handle}
 use Rattle.register.specs.Contents.{Names}
+use Rattle.register.specs.Kept.{pool_in}
 use Rattle.register.specs.Shown.{Shown, Shows}
 use Rattle.register.specs.Steps.{Step}
 use Rattle.register.specs.declared.handle.Refused.{Refused}
 use Rattle.register.specs.declared.register.Register.{Register}
 
+-- the pool that the register stands for: its nodes are the first of the memory, as many as its size says
+abbrev pub pool_of : {N : Type 0} → Register N → Pool
+pool_of r = pool_in r.nodes r.size r.state
+
+-- A call works in the memory that was lent to the register: the same borrow, as many nodes of it, and what lies behind them as it was.
+pub record SameLoan {N : Type 0} (before after : Register N) : Type 0 where
+  pub borrow : after.nodes.ghost_name ≡ before.nodes.ghost_name
+  pub size : after.size ≡ before.size
+  pub behind : drop before.size after.nodes.now ≡ drop before.size before.nodes.now
+
 module _ {N : Type 0} {K : Type 0} (𝓝 : Names K) where
   abbrev pub ShownBy : Register N → Shown → Type 0
-  ShownBy r s = Shows 𝓝 r.pool r.table.lines r.next s
+  ShownBy r s = Shows 𝓝 (pool_of r) r.table.lines r.next s
 
   abbrev pub Tells : Register N → Call → Answer → Register N → Type 0
   Tells r call a r' = (s : Shown) → ShownBy r s → (s' : Shown) × ShownBy r' s' × Step 𝓝 s call a s'

@@ -1,13 +1,18 @@
 //! Entries on the working sheet of a sitting: recording, correcting and withdrawing readings.
 
-ghost use Rattle.std.specs.Prelude.{◌≡◌, true, [], ◌∷◌, is_err, nat_lt};
+ghost use Rattle.std.specs.Prelude.{◌≡◌, ◌-◌, true, [], ◌∷◌, length, IfOk, is_err, nat_lt};
 ghost use Rattle.std.specs.Result.{result_err};
+ghost use Rattle.pool.specs.Held.{Carries};
+ghost use Rattle.pool.specs.Sound.{memory_of, used_of};
+ghost use Rattle.pool.specs.Tree.{Tree};
+ghost use Rattle.tree.specs.Shape.{Balanced};
 ghost use Rattle.register.specs.Calls.{enters, entry_answer, sitting_handle};
-ghost use Rattle.register.specs.Contents.{names};
+ghost use Rattle.register.specs.Contents.{card_tree, names};
 ghost use Rattle.register.specs.Declined.{lacking, occupied};
-ghost use Rattle.register.specs.Entries.{Readable};
+ghost use Rattle.register.specs.Entries.{Readable, entry_refusal};
 ghost use Rattle.register.specs.Refusals.{first_of};
-ghost use Rattle.register.specs.Registers.{Tells};
+ghost use Rattle.register.specs.Shapes.{Filed, SheetWith};
+ghost use Rattle.register.specs.Registers.{SameLoan, Tells, pool_of};
 ghost use Rattle.register.specs.declared.entries.Change.TheVariants.{Record as records, Correct as corrects, Withdraw as withdraws};
 ghost use Rattle.register.specs.declared.refusal.Refusal.TheVariants.{NoReading, ReadingThere};
 
@@ -72,6 +77,31 @@ fn is_late(measured: u32, recorded: u32) -> bool
     measured > recorded
 }
 
+impl<N: NameOrder> Register<'_, N> {
+    /// The root of the card on which an entry may be made, or why it may not. By `&self`: a proof knows then that asking changes
+    /// nothing.
+    fn card_to_change(
+        &self,
+        sheet: u16,
+        name: N,
+        measured: Instant,
+        change: Change,
+    ) -> Result<u16, Refusal>
+        requires { (t : Tree) × Carries (pool_of self.now) sheet t × SheetWith Balanced Filed t }
+        ensures card { (t : Tree) → Carries (pool_of self.now) sheet t → IfOk result (λ card. Carries (pool_of self.now) card (card_tree (names N.Key.words N.Key.key N.cmp N.NameOrder.named N.NameOrder.name) name t)) }
+        ensures declined { (t : Tree) → Carries (pool_of self.now) sheet t → result_err result ≡ entry_refusal (names N.Key.words N.Key.key N.cmp N.NameOrder.named N.NameOrder.name) t name measured change (length (memory_of (pool_of self.now)) - used_of (pool_of self.now)) }
+    {
+        may_enter(
+            &self.nodes[..self.size],
+            self.state,
+            sheet,
+            name,
+            measured,
+            change,
+        )
+    }
+}
+
 impl<'m, N: NameOrder> Register<'m, N> {
     /// Makes an entry at a name and a measured instant on the working sheet of the sitting.
     pub(crate) fn enter(
@@ -82,6 +112,7 @@ impl<'m, N: NameOrder> Register<'m, N> {
         change: Change,
     ) -> Result<(), Refusal>
         ensures told { Tells (names N.Key.words N.Key.key N.cmp N.NameOrder.named N.NameOrder.name) self.old (enters (sitting_handle sitting.now) name.now measured change) (entry_answer result) self.new }
+        ensures lent { SameLoan self.old self.new }
         ensures same { is_err result ≡ true → self.new ≡ self.old }
     {
         let (record, recorded, sheet) = self.table.sitting(sitting)?;
@@ -92,8 +123,16 @@ impl<'m, N: NameOrder> Register<'m, N> {
         }
         let name = N::from_name(name);
         let measured = Instant::from(measured);
-        let card = may_enter(&self.pool, sheet, name, measured, change)?;
-        let sheet = change_sheet(&mut self.pool, sheet, card, name, measured, reading);
+        let card = self.card_to_change(sheet, name, measured, change)?;
+        let sheet = change_sheet(
+            &mut self.nodes[..self.size],
+            &mut self.state,
+            sheet,
+            card,
+            name,
+            measured,
+            reading,
+        );
         self.table
             .put(sitting.place(), record.seated(recorded, sheet));
         Ok(())
@@ -108,6 +147,7 @@ impl<'m, N: NameOrder> Register<'m, N> {
         microhertz: i64,
     ) -> Result<(), Refusal>
         ensures told { Tells (names N.Key.words N.Key.key N.cmp N.NameOrder.named N.NameOrder.name) self.old (enters (sitting_handle sitting.now) name.now measured (records microhertz)) (entry_answer result) self.new }
+        ensures lent { SameLoan self.old self.new }
         ensures same { is_err result ≡ true → self.new ≡ self.old }
     {
         self.enter(sitting, name, measured, Change::recording(microhertz))
@@ -122,6 +162,7 @@ impl<'m, N: NameOrder> Register<'m, N> {
         microhertz: i64,
     ) -> Result<(), Refusal>
         ensures told { Tells (names N.Key.words N.Key.key N.cmp N.NameOrder.named N.NameOrder.name) self.old (enters (sitting_handle sitting.now) name.now measured (corrects microhertz)) (entry_answer result) self.new }
+        ensures lent { SameLoan self.old self.new }
         ensures same { is_err result ≡ true → self.new ≡ self.old }
     {
         self.enter(sitting, name, measured, Change::correcting(microhertz))
@@ -130,6 +171,7 @@ impl<'m, N: NameOrder> Register<'m, N> {
     /// Withdraws a reading that is there. A card that becomes empty takes its name off the sheet.
     pub fn withdraw(&mut self, sitting: &Sitting, name: &[u8], measured: u32) -> Result<(), Refusal>
         ensures told { Tells (names N.Key.words N.Key.key N.cmp N.NameOrder.named N.NameOrder.name) self.old (enters (sitting_handle sitting.now) name.now measured withdraws) (entry_answer result) self.new }
+        ensures lent { SameLoan self.old self.new }
         ensures same { is_err result ≡ true → self.new ≡ self.old }
     {
         self.enter(sitting, name, measured, Change::Withdraw)

@@ -1,57 +1,63 @@
 //! Opening, branching, stowing, fetching and retiring lines.
 
-ghost use Rattle.std.specs.Prelude.{◌≡◌, ◌+◌, ◌^◌, ◌<◌, ◌≤◌, min, true, List, ◌∷◌, length, is_err};
-ghost use Rattle.pool.specs.Held.{Carries, Held, Holds, held};
-ghost use Rattle.pool.specs.Sound.{memory_of, used_of};
+ghost use Rattle.std.specs.Prelude.{◌≡◌, ◌+◌, ◌^◌, ◌<◌, ◌≤◌, drop, min, true, List, ◌∷◌, length, is_err};
+ghost use Rattle.pool.specs.Held.{CarriesIn, Held, HoldsBy, held};
 ghost use Rattle.pool.specs.Tree.{Tree};
 ghost use Rattle.register.specs.Calls.{branch_answer, branches, done_answer, fetches, line_answer, line_handle, opens, retires, stows};
 ghost use Rattle.register.specs.Contents.{names};
-ghost use Rattle.register.specs.Registers.{GivesBack, HandsBack, ShownBy, Tells};
+ghost use Rattle.register.specs.Registers.{GivesBack, HandsBack, SameLoan, ShownBy, Tells};
 ghost use Rattle.register.specs.Shown.{newly_made};
 ghost use Rattle.register.specs.Tables.{resting_record, vacancy_in};
 
 use crate::handle::{Line, Refused, SPENT};
 use crate::refusal::Refusal;
-use crate::register::Register;
+use crate::register::{MOST_NODES, Register};
 use crate::table::{Record, State, Table};
 use kinds::NameOrder;
-use pool::{Node, Pool};
+use pool::{Node, PoolState};
 use std::marker::PhantomData;
 
 /// The last serial that a line can have.
 const LAST_SERIAL: u32 = SPENT - 1;
 
 /// The record of a new line with the stages of another: one owner more of their root.
-fn branch_off(pool: &mut Pool<'_>, line: Record, serial: u32) -> Record
-    requires held { (hs : List Held) × Holds pool.old hs × (length hs < 2 ^ 31) }
-    requires carried { (t : Tree) × Carries pool.old line.root t }
+fn branch_off(nodes: &mut [Node], state: &mut PoolState, line: Record, serial: u32) -> Record
+    requires held { (hs : List Held) × HoldsBy nodes.old state.old hs × (length hs < 2 ^ 31) }
+    requires carried { (t : Tree) × CarriesIn nodes.old line.root t }
     ensures made { result ≡ resting_record serial line.root }
-    ensures owned { (t : Tree) (hs : List Held) → Holds pool.old hs → Carries pool.old line.root t → Holds pool.new (held line.root t ∷ hs) }
-    ensures used { used_of pool.new ≡ used_of pool.old }
-    ensures size { length (memory_of pool.new) ≡ length (memory_of pool.old) }
+    ensures owned { (t : Tree) (hs : List Held) → HoldsBy nodes.old state.old hs → CarriesIn nodes.old line.root t → HoldsBy nodes.new state.new (held line.root t ∷ hs) }
+    ensures used { state.new.used ≡ state.old.used }
+    ensures size { length nodes.new ≡ length nodes.old }
 {
-    pool.retain(line.root);
+    state.retain(nodes, line.root);
     Record::resting(serial, line.root)
 }
 
 /// Lets the stages of a line that ends go: one owner fewer of their root.
-fn let_go(pool: &mut Pool<'_>, line: Record)
-    requires { (t : Tree) × (hs : List Held) × Holds pool.old (held line.root t ∷ hs) }
-    ensures owned { (t : Tree) (hs : List Held) → Holds pool.old (held line.root t ∷ hs) → Holds pool.new hs }
-    ensures fewer { used_of pool.new ≤ used_of pool.old }
-    ensures size { length (memory_of pool.new) ≡ length (memory_of pool.old) }
+fn let_go(nodes: &mut [Node], state: &mut PoolState, line: Record)
+    requires { (t : Tree) × (hs : List Held) × HoldsBy nodes.old state.old (held line.root t ∷ hs) }
+    ensures owned { (t : Tree) (hs : List Held) → HoldsBy nodes.old state.old (held line.root t ∷ hs) → HoldsBy nodes.new state.new hs }
+    ensures fewer { state.new.used ≤ state.old.used }
+    ensures size { length nodes.new ≡ length nodes.old }
 {
-    pool.release(line.root);
+    state.release(nodes, line.root);
 }
 
 impl<'m, N: NameOrder> Register<'m, N> {
     /// A register over this memory, with all nodes and lines free and all shelves empty.
-    /// Its nodes are the first 65,535 at most.
+    /// Its nodes are the first of the memory, 65,535 at most. What lies behind them is never written.
     pub fn new(memory: &'m mut [Node], first_serial: u32) -> Register<'m, N>
-        ensures { ShownBy (names N.Key.words N.Key.key N.cmp N.NameOrder.named N.NameOrder.name) result (newly_made (min (length memory.old) 65535) first_serial) }
+        ensures shown { ShownBy (names N.Key.words N.Key.key N.cmp N.NameOrder.named N.NameOrder.name) result (newly_made (min (length memory.old) 65535) first_serial) }
+        ensures borrow { result.nodes.ghost_name ≡ memory.entry.ghost_name }
+        ensures size { result.size ≡ min (length memory.old) 65535 }
+        ensures behind { drop result.size result.nodes.now ≡ drop result.size memory.old }
     {
+        let size = memory.len().min(MOST_NODES);
+        let state = PoolState::new(&mut memory[..size]);
         Register {
-            pool: Pool::new(memory),
+            nodes: memory,
+            size,
+            state,
             table: Table::new(),
             next: first_serial,
             order: PhantomData,
@@ -69,25 +75,15 @@ impl<'m, N: NameOrder> Register<'m, N> {
         Ok(place as u32)
     }
 
-    /// The serial of the next line; the line after it gets the serial after this one.
-    fn next_serial(&mut self) -> u32
-        requires { self.old.next ≤ 4294967294 }
-        ensures serial { result ≡ self.old.next }
-        ensures next { self.new.next ≡ self.old.next + 1 }
-        ensures rest { (self.new.pool ≡ self.old.pool) × (self.new.table ≡ self.old.table) }
-    {
-        let serial = self.next;
-        self.next = serial + 1;
-        serial
-    }
-
     /// Opens a line at rest, without a stage.
     pub fn open_line(&mut self) -> Result<Line, Refusal>
         ensures told { Tells (names N.Key.words N.Key.key N.cmp N.NameOrder.named N.NameOrder.name) self.old opens (line_answer result) self.new }
+        ensures lent { SameLoan self.old self.new }
         ensures same { is_err result ≡ true → self.new ≡ self.old }
     {
         let place = self.vacancy()?;
-        let serial = self.next_serial();
+        let serial = self.next;
+        self.next = serial + 1;
         self.table.put(place, Record::resting(serial, 0));
         Ok(Line::from_parts(place, serial))
     }
@@ -95,6 +91,7 @@ impl<'m, N: NameOrder> Register<'m, N> {
     /// Branches a line at rest off another: the old one comes back, and a new one with the same stages.
     pub fn branch(&mut self, line: Line) -> Result<(Line, Line), Refused<Line>>
         ensures told { Tells (names N.Key.words N.Key.key N.cmp N.NameOrder.named N.NameOrder.name) self.old (branches (line_handle line)) (branch_answer result) self.new }
+        ensures lent { SameLoan self.old self.new }
         ensures back { GivesBack line result }
         ensures same { is_err result ≡ true → self.new ≡ self.old }
     {
@@ -108,8 +105,14 @@ impl<'m, N: NameOrder> Register<'m, N> {
             Ok(place) => place,
             Err(why) => return Err(Refused { handle: line, why }),
         };
-        let serial = self.next_serial();
-        let new = branch_off(&mut self.pool, record, serial);
+        let serial = self.next;
+        self.next = serial + 1;
+        let new = branch_off(
+            &mut self.nodes[..self.size],
+            &mut self.state,
+            record,
+            serial,
+        );
         self.table.put(place, new);
         Ok((line, Line::from_parts(place, serial)))
     }
@@ -117,6 +120,7 @@ impl<'m, N: NameOrder> Register<'m, N> {
     /// Lays a line at rest on a shelf.
     pub fn stow(&mut self, line: Line, letter: u8) -> Result<(), Refused<Line>>
         ensures told { Tells (names N.Key.words N.Key.key N.cmp N.NameOrder.named N.NameOrder.name) self.old (stows (line_handle line) letter) (done_answer result) self.new }
+        ensures lent { SameLoan self.old self.new }
         ensures back { HandsBack line result }
         ensures same { is_err result ≡ true → self.new ≡ self.old }
     {
@@ -132,6 +136,7 @@ impl<'m, N: NameOrder> Register<'m, N> {
     /// Takes the line off a shelf, with the handle that it had.
     pub fn fetch(&mut self, letter: u8) -> Result<Line, Refusal>
         ensures told { Tells (names N.Key.words N.Key.key N.cmp N.NameOrder.named N.NameOrder.name) self.old (fetches letter) (line_answer result) self.new }
+        ensures lent { SameLoan self.old self.new }
         ensures same { is_err result ≡ true → self.new ≡ self.old }
     {
         if !letter.is_ascii_uppercase() {
@@ -148,6 +153,7 @@ impl<'m, N: NameOrder> Register<'m, N> {
     /// Ends a line at rest. The nodes that only this line reached are free then.
     pub fn retire(&mut self, line: Line) -> Result<(), Refused<Line>>
         ensures told { Tells (names N.Key.words N.Key.key N.cmp N.NameOrder.named N.NameOrder.name) self.old (retires (line_handle line)) (done_answer result) self.new }
+        ensures lent { SameLoan self.old self.new }
         ensures back { HandsBack line result }
         ensures same { is_err result ≡ true → self.new ≡ self.old }
     {
@@ -158,7 +164,7 @@ impl<'m, N: NameOrder> Register<'m, N> {
             });
         };
         let (place, _) = line.into_parts();
-        let_go(&mut self.pool, record);
+        let_go(&mut self.nodes[..self.size], &mut self.state, record);
         self.table.free(place);
         Ok(())
     }

@@ -1,9 +1,9 @@
 //! Questions change nothing.
 
-ghost use Rattle.std.specs.Prelude.{◌≡◌, ◌+◌, ◌≤◌, List, length, Some, None, nat_lt};
+ghost use Rattle.std.specs.Prelude.{◌≡◌, ◌+◌, ◌≤◌, length, Some, None, nat_lt};
 ghost use Rattle.std.specs.Option.{option_map};
-ghost use Rattle.pool.specs.Held.{Carries, Held, Holds};
-ghost use Rattle.pool.specs.Sound.{memory_of, used_of};
+ghost use Rattle.pool.specs.Held.{CarriesIn, SoundMemory};
+ghost use Rattle.pool.specs.Sound.{memory_of};
 ghost use Rattle.pool.specs.Tree.{Tree};
 ghost use Rattle.tree.specs.Lookup.{first_after, first_of};
 ghost use Rattle.tree.specs.Readable.{Readable};
@@ -11,7 +11,7 @@ ghost use Rattle.tree.specs.Shape.{Ascending, Balanced, items};
 ghost use Rattle.register.specs.Calls.{as_of, asks, counted, found_answer, line_handle, name_answer, next_name, tallies, total as totals, total_answer};
 ghost use Rattle.register.specs.Contents.{names};
 ghost use Rattle.register.specs.Found.{CardFound, CardReady, CardTold, LineReady, RestTold, SheetFound, sheet_up_to};
-ghost use Rattle.register.specs.Registers.{Answers, ShownBy};
+ghost use Rattle.register.specs.Registers.{Answers, ShownBy, pool_of};
 ghost use Rattle.register.specs.Shown.{Shown};
 ghost use Rattle.register.specs.Shapes.{Filed, LineWith};
 
@@ -21,8 +21,8 @@ use crate::register::Register;
 use crate::sheet::card_of;
 use crate::sittings::{HIGHEST, sheet_of};
 use kinds::{Instant, Name, NameOrder, Reading};
-use pool::Pool;
-use tree::{Root, Total, after, at_most, first, stored_height, total_between};
+use pool::{Node, PoolState};
+use tree::{Root, Total, after, at_most, first, root_height, total_between};
 
 /// How much of a register is in use.
 #[derive(Clone, Copy)]
@@ -36,42 +36,42 @@ pub struct Tally {
 }
 
 impl Tally {
-    /// The nodes of a pool, and so many lines.
-    fn of(pool: &Pool<'_>, lines: u32) -> Tally
-        requires small { length (memory_of pool.now) ≤ 65535 }
-        requires within { used_of pool.now ≤ length (memory_of pool.now) }
-        ensures used { result.in_use ≡ used_of pool.now }
-        ensures free { result.free + used_of pool.now ≡ length (memory_of pool.now) }
+    /// Of these nodes, and so many lines.
+    fn of(nodes: &[Node], state: PoolState, lines: u32) -> Tally
+        requires small { length nodes.now ≤ 65535 }
+        requires within { state.used ≤ length nodes.now }
+        ensures used { result.in_use ≡ state.used }
+        ensures free { result.free + state.used ≡ length nodes.now }
         ensures lines { result.lines ≡ lines }
     {
         Tally {
-            in_use: u32::from(pool.in_use()),
-            free: u32::from(pool.available()),
+            in_use: u32::from(state.in_use()),
+            free: u32::from(state.available(nodes)),
             lines,
         }
     }
 }
 
 /// The root of a line's sheet as of a recorded instant; 0 where no stage is at or before it.
-fn sheet_up_to(pool: &Pool<'_>, root: u16, recorded: Instant) -> u16
-    requires { Readable pool.now root }
-    ensures { (t : Tree) → Carries pool.now root t → Carries pool.now result (sheet_up_to recorded t) }
+fn sheet_up_to(nodes: &[Node], root: u16, recorded: Instant) -> u16
+    requires { Readable nodes.now root }
+    ensures { (t : Tree) → CarriesIn nodes.now root t → CarriesIn nodes.now result (sheet_up_to recorded t) }
 {
-    sheet_of(at_most::<Instant, Root>(pool, root, recorded))
+    sheet_of(at_most::<Instant, Root>(nodes, root, recorded))
 }
 
 /// The root of a line's sheet as of a recorded instant, 0 where no stage is at or before it; or a refusal where a tree
 /// is too high.
-fn find_sheet(pool: &Pool<'_>, root: u16, recorded: Instant) -> Result<u16, Refusal>
-    requires held { (hs : List Held) × Holds pool.now hs }
-    requires carried { (t : Tree) × Carries pool.now root t × LineWith Balanced Balanced Filed t }
-    ensures { (t : Tree) → Carries pool.now root t → SheetFound pool.now t recorded result }
+fn find_sheet(nodes: &[Node], root: u16, recorded: Instant) -> Result<u16, Refusal>
+    requires held { SoundMemory nodes.now }
+    requires carried { (t : Tree) × CarriesIn nodes.now root t × LineWith Balanced Balanced Filed t }
+    ensures { (t : Tree) → CarriesIn nodes.now root t → SheetFound nodes.now t recorded result }
 {
-    if stored_height(pool, root) > HIGHEST {
+    if root_height(nodes, root) > HIGHEST {
         return Err(Refusal::TreeTooHigh);
     }
-    let sheet = sheet_up_to(pool, root, recorded);
-    if stored_height(pool, sheet) > HIGHEST {
+    let sheet = sheet_up_to(nodes, root, recorded);
+    if root_height(nodes, sheet) > HIGHEST {
         return Err(Refusal::TreeTooHigh);
     }
     Ok(sheet)
@@ -79,18 +79,18 @@ fn find_sheet(pool: &Pool<'_>, root: u16, recorded: Instant) -> Result<u16, Refu
 
 /// The root of a name's card on the sheet as of a recorded instant; or a refusal where a tree is too high.
 fn find_card<N: NameOrder>(
-    pool: &Pool<'_>,
+    nodes: &[Node],
     root: u16,
     recorded: Instant,
     name: N,
 ) -> Result<u16, Refusal>
-    requires held { (hs : List Held) × Holds pool.now hs }
-    requires carried { (t : Tree) × Carries pool.now root t × LineWith Balanced Balanced Filed t }
-    ensures { (t : Tree) → Carries pool.now root t → CardFound (names N.Key.words N.Key.key N.cmp N.NameOrder.named N.NameOrder.name) pool.now t recorded name result }
+    requires held { SoundMemory nodes.now }
+    requires carried { (t : Tree) × CarriesIn nodes.now root t × LineWith Balanced Balanced Filed t }
+    ensures { (t : Tree) → CarriesIn nodes.now root t → CardFound (names N.Key.words N.Key.key N.cmp N.NameOrder.named N.NameOrder.name) nodes.now t recorded name result }
 {
-    let sheet = find_sheet(pool, root, recorded)?;
-    let card = card_of(pool, sheet, name);
-    if stored_height(pool, card) > HIGHEST {
+    let sheet = find_sheet(nodes, root, recorded)?;
+    let card = card_of(nodes, sheet, name);
+    if root_height(nodes, card) > HIGHEST {
         return Err(Refusal::TreeTooHigh);
     }
     Ok(card)
@@ -114,26 +114,26 @@ fn name_of<N: NameOrder>(entry: Option<(N, Root)>) -> Option<Name>
 }
 
 /// The first name on a sheet.
-fn first_on<N: NameOrder>(pool: &Pool<'_>, sheet: u16) -> Option<Name>
-    requires { Readable pool.now sheet }
-    ensures { (t : Tree) → Carries pool.now sheet t → result ≡ option_map (λ x. N.NameOrder.name x.key) (first_of (items N.Key.key t)) }
+fn first_on<N: NameOrder>(nodes: &[Node], sheet: u16) -> Option<Name>
+    requires { Readable nodes.now sheet }
+    ensures { (t : Tree) → CarriesIn nodes.now sheet t → result ≡ option_map (λ x. N.NameOrder.name x.key) (first_of (items N.Key.key t)) }
 {
-    name_of::<N>(first::<N, Root>(pool, sheet))
+    name_of::<N>(first::<N, Root>(nodes, sheet))
 }
 
 /// The first name on a sheet after this one.
-fn first_after<N: NameOrder>(pool: &Pool<'_>, sheet: u16, name: N) -> Option<Name>
-    requires { Readable pool.now sheet }
-    ensures { (t : Tree) → Carries pool.now sheet t → Ascending N.cmp (items N.Key.key t) → result ≡ option_map (λ x. N.NameOrder.name x.key) (first_after N.cmp name (items N.Key.key t)) }
+fn first_after<N: NameOrder>(nodes: &[Node], sheet: u16, name: N) -> Option<Name>
+    requires { Readable nodes.now sheet }
+    ensures { (t : Tree) → CarriesIn nodes.now sheet t → Ascending N.cmp (items N.Key.key t) → result ≡ option_map (λ x. N.NameOrder.name x.key) (first_after N.cmp name (items N.Key.key t)) }
 {
-    name_of::<N>(after::<N, Root>(pool, sheet, name))
+    name_of::<N>(after::<N, Root>(nodes, sheet, name))
 }
 
 impl<N: NameOrder> Register<'_, N> {
     /// The root of a line at rest.
     fn resting(&self, line: &Line) -> Result<u16, Refusal>
-        ensures told { (s : Shown) → ShownBy (names N.Key.words N.Key.key N.cmp N.NameOrder.named N.NameOrder.name) self.now s → RestTold self.now.pool s (line_handle line.now) result }
-        ensures ready { LineReady self.now.pool result }
+        ensures told { (s : Shown) → ShownBy (names N.Key.words N.Key.key N.cmp N.NameOrder.named N.NameOrder.name) self.now s → RestTold (memory_of (pool_of self.now)) s (line_handle line.now) result }
+        ensures ready { LineReady (memory_of (pool_of self.now)) result }
     {
         let record = self.table.resting(line)?;
         Ok(record.root)
@@ -141,13 +141,13 @@ impl<N: NameOrder> Register<'_, N> {
 
     /// The root of a name's card, for a question about one name.
     fn card_for(&self, line: &Line, recorded: u32, name: &[u8]) -> Result<u16, Refusal>
-        ensures told { (s : Shown) → ShownBy (names N.Key.words N.Key.key N.cmp N.NameOrder.named N.NameOrder.name) self.now s → CardTold (names N.Key.words N.Key.key N.cmp N.NameOrder.named N.NameOrder.name) self.now.pool s (line_handle line.now) recorded name.now result }
-        ensures ready { CardReady self.now.pool result }
+        ensures told { (s : Shown) → ShownBy (names N.Key.words N.Key.key N.cmp N.NameOrder.named N.NameOrder.name) self.now s → CardTold (names N.Key.words N.Key.key N.cmp N.NameOrder.named N.NameOrder.name) (memory_of (pool_of self.now)) s (line_handle line.now) recorded name.now result }
+        ensures ready { CardReady (memory_of (pool_of self.now)) result }
     {
         let root = self.resting(line)?;
         let name = Name::try_from(name)?;
         find_card(
-            &self.pool,
+            &self.nodes[..self.size],
             root,
             Instant::from(recorded),
             N::from_name(name),
@@ -165,7 +165,7 @@ impl<N: NameOrder> Register<'_, N> {
         ensures { Answers (names N.Key.words N.Key.key N.cmp N.NameOrder.named N.NameOrder.name) self.now (asks (line_handle line.now) recorded (as_of name.now measured)) (found_answer result) }
     {
         let card = self.card_for(line, recorded, name)?;
-        Ok(at_most::<Instant, Reading>(&self.pool, card, Instant::from(measured)))
+        Ok(at_most::<Instant, Reading>(&self.nodes[..self.size], card, Instant::from(measured)))
     }
 
     /// The number and the sum of a name's readings from one measured instant to another, both included, as they were
@@ -184,7 +184,12 @@ impl<N: NameOrder> Register<'_, N> {
         if are_crossed(from, to) {
             return Err(Refusal::EndsCrossed);
         }
-        Ok(total_between(&self.pool, card, Instant::from(from), Instant::from(to)))
+        Ok(total_between(
+            &self.nodes[..self.size],
+            card,
+            Instant::from(from),
+            Instant::from(to),
+        ))
     }
 
     /// The first name of all, in the register's order, as it was known at a recorded instant.
@@ -192,8 +197,8 @@ impl<N: NameOrder> Register<'_, N> {
         ensures { Answers (names N.Key.words N.Key.key N.cmp N.NameOrder.named N.NameOrder.name) self.now (asks (line_handle line.now) recorded (next_name None)) (name_answer result) }
     {
         let root = self.resting(line)?;
-        let sheet = find_sheet(&self.pool, root, Instant::from(recorded))?;
-        Ok(first_on::<N>(&self.pool, sheet))
+        let sheet = find_sheet(&self.nodes[..self.size], root, Instant::from(recorded))?;
+        Ok(first_on::<N>(&self.nodes[..self.size], sheet))
     }
 
     /// The first name after this one, in the register's order, as it was known at a recorded instant.
@@ -207,14 +212,14 @@ impl<N: NameOrder> Register<'_, N> {
     {
         let root = self.resting(line)?;
         let name = Name::try_from(name)?;
-        let sheet = find_sheet(&self.pool, root, Instant::from(recorded))?;
-        Ok(first_after::<N>(&self.pool, sheet, N::from_name(name)))
+        let sheet = find_sheet(&self.nodes[..self.size], root, Instant::from(recorded))?;
+        Ok(first_after::<N>(&self.nodes[..self.size], sheet, N::from_name(name)))
     }
 
     /// The nodes in use, the nodes free and the live lines.
     pub fn tally(&self) -> Tally
         ensures { Answers (names N.Key.words N.Key.key N.cmp N.NameOrder.named N.NameOrder.name) self.now tallies (counted result) }
     {
-        Tally::of(&self.pool, self.table.live())
+        Tally::of(&self.nodes[..self.size], self.state, self.table.live())
     }
 }

@@ -1,7 +1,7 @@
 //! Beginning, committing and abandoning sittings.
 
 ghost use Rattle.std.specs.Prelude.{◌≡◌, ◌+◌, ◌^◌, ◌<◌, ◌≤◌, true, List, ◌∷◌, length, pos, is_err, nat_lt};
-ghost use Rattle.pool.specs.Held.{Carries, Held, Holds, held};
+ghost use Rattle.pool.specs.Held.{Carries, CarriesIn, Held, HoldsBy, OfParts, held};
 ghost use Rattle.pool.specs.Sound.{memory_of, used_of};
 ghost use Rattle.pool.specs.Tree.{Tree};
 ghost use Rattle.tree.specs.Append.{Behind};
@@ -12,7 +12,7 @@ ghost use Rattle.tree.specs.Shape.{Balanced, height};
 ghost use Rattle.register.specs.Calls.{abandons, begins, commits, done_answer, line_handle, sitting_handle};
 ghost use Rattle.register.specs.Contents.{earlier, instant_at, names};
 ghost use Rattle.register.specs.Found.{SheetBefore, not_after_stage, sheet_in};
-ghost use Rattle.register.specs.Registers.{HandsBack, SameLine, SameSitting, Tells};
+ghost use Rattle.register.specs.Registers.{HandsBack, SameLine, SameLoan, SameSitting, Tells, pool_of};
 ghost use Rattle.register.specs.Tables.{resting_record};
 ghost use Rattle.register.specs.Trees.{instant_words};
 ghost use Rattle.register.specs.declared.table.State.TheVariants.{Sitting as seated_at};
@@ -22,8 +22,8 @@ use crate::refusal::Refusal;
 use crate::register::Register;
 use crate::table::Record;
 use kinds::{Instant, NameOrder};
-use pool::Pool;
-use tree::{Root, Value, insert, last, stored_height};
+use pool::{Node, Pool, PoolState};
+use tree::{Root, Value, insert, last, root_height};
 
 /// The height of the highest tree that a call goes through.
 pub(crate) const HIGHEST: u8 = 24;
@@ -59,60 +59,102 @@ pub(crate) fn sheet_of(stage: Option<(Instant, Root)>) -> u16
 }
 
 /// The root of the last stage's sheet, 0 where there is no stage, for a sitting at `recorded`; or why it cannot begin.
-fn sheet_before(pool: &Pool<'_>, root: u16, recorded: u32) -> Result<u16, Refusal>
-    requires { Readable pool.now root }
-    ensures { (t : Tree) → Carries pool.now root t → SheetBefore pool.now t recorded result }
+fn sheet_before(nodes: &[Node], root: u16, recorded: u32) -> Result<u16, Refusal>
+    requires { Readable nodes.now root }
+    ensures { (t : Tree) → CarriesIn nodes.now root t → SheetBefore nodes.now t recorded result }
 {
-    let stage = last::<Instant, Root>(pool, root);
+    let stage = last::<Instant, Root>(nodes, root);
     if is_not_after(recorded, stage) {
         return Err(Refusal::NotLater);
     }
-    if stored_height(pool, root) > HIGHEST {
+    if root_height(nodes, root) > HIGHEST {
         return Err(Refusal::TreeTooHigh);
     }
     Ok(sheet_of(stage))
 }
 
 /// The record of a line in a sitting on this sheet: one owner more of the sheet's root.
-fn sit_down(pool: &mut Pool<'_>, line: Record, recorded: u32, sheet: u16) -> Record
-    requires held { (hs : List Held) × Holds pool.old hs × (length hs < 2 ^ 31) }
-    requires carried { (t : Tree) × Carries pool.old sheet t }
+fn sit_down(
+    nodes: &mut [Node],
+    state: &mut PoolState,
+    line: Record,
+    recorded: u32,
+    sheet: u16,
+) -> Record
+    requires held { (hs : List Held) × HoldsBy nodes.old state.old hs × (length hs < 2 ^ 31) }
+    requires carried { (t : Tree) × CarriesIn nodes.old sheet t }
     ensures made { result ≡ record { serial = line.serial; root = line.root; state = seated_at recorded sheet } }
-    ensures owned { (t : Tree) (hs : List Held) → Holds pool.old hs → Carries pool.old sheet t → Holds pool.new (held sheet t ∷ hs) }
-    ensures used { used_of pool.new ≡ used_of pool.old }
-    ensures size { length (memory_of pool.new) ≡ length (memory_of pool.old) }
+    ensures owned { (t : Tree) (hs : List Held) → HoldsBy nodes.old state.old hs → CarriesIn nodes.old sheet t → HoldsBy nodes.new state.new (held sheet t ∷ hs) }
+    ensures used { state.new.used ≡ state.old.used }
+    ensures size { length nodes.new ≡ length nodes.old }
 {
-    pool.retain(sheet);
+    state.retain(nodes, sheet);
     line.seated(recorded, sheet)
 }
 
 /// Adds a sheet to the stages of a line. The owners of the stages and of the sheet become the owner of the result.
-fn add_stage(pool: &mut Pool<'_>, stages: u16, recorded: Instant, sheet: u16) -> u16
-    requires ready { Insertable pool.old stages sheet }
-    ensures owned { (t nested : Tree) (hs : List Held) → Holds pool.old (held stages t ∷ held sheet nested ∷ hs) → Holds pool.new (held result (inserted (compared instant_at earlier recorded) (instant_words recorded) (pos 0) nested t) ∷ hs) }
-    ensures appended { (t : Tree) → Carries pool.old stages t → Behind (compared instant_at earlier recorded) t → used_of pool.new ≤ used_of pool.old + height t + 1 }
-    ensures size { length (memory_of pool.new) ≡ length (memory_of pool.old) }
+fn add_stage(
+    nodes: &mut [Node],
+    state: &mut PoolState,
+    stages: u16,
+    recorded: Instant,
+    sheet: u16,
+) -> u16
+    requires ready { OfParts nodes.old state.old (λ p. Insertable p stages sheet) }
+    ensures owned { (t nested : Tree) (hs : List Held) → HoldsBy nodes.old state.old (held stages t ∷ held sheet nested ∷ hs) → HoldsBy nodes.new state.new (held result (inserted (compared instant_at earlier recorded) (instant_words recorded) (pos 0) nested t) ∷ hs) }
+    ensures appended { (t : Tree) → CarriesIn nodes.old stages t → Behind (compared instant_at earlier recorded) t → state.new.used ≤ state.old.used + height t + 1 }
+    ensures size { length nodes.new ≡ length nodes.old }
 {
-    insert(pool, stages, recorded, Root { link: sheet })
+    let mut pool = Pool::over(nodes, *state);
+    let stages = insert(&mut pool, stages, recorded, Root { link: sheet });
+    *state = pool.state();
+    stages
 }
 
 /// The record of the line at rest, with its old stages, when its sitting is abandoned: one owner fewer of the root of
 /// the working sheet.
-fn stand_up(pool: &mut Pool<'_>, line: Record, sheet: u16) -> Record
-    requires { (t : Tree) × (hs : List Held) × Holds pool.old (held sheet t ∷ hs) }
+fn stand_up(nodes: &mut [Node], state: &mut PoolState, line: Record, sheet: u16) -> Record
+    requires { (t : Tree) × (hs : List Held) × HoldsBy nodes.old state.old (held sheet t ∷ hs) }
     ensures made { result ≡ resting_record line.serial line.root }
-    ensures owned { (t : Tree) (hs : List Held) → Holds pool.old (held sheet t ∷ hs) → Holds pool.new hs }
-    ensures fewer { used_of pool.new ≤ used_of pool.old }
-    ensures size { length (memory_of pool.new) ≡ length (memory_of pool.old) }
+    ensures owned { (t : Tree) (hs : List Held) → HoldsBy nodes.old state.old (held sheet t ∷ hs) → HoldsBy nodes.new state.new hs }
+    ensures fewer { state.new.used ≤ state.old.used }
+    ensures size { length nodes.new ≡ length nodes.old }
 {
-    pool.release(sheet);
+    state.release(nodes, sheet);
     line.rested()
+}
+
+// What is asked of the nodes on the way to a change is asked by `&self`: a proof knows then that asking changes nothing.
+impl<N: NameOrder> Register<'_, N> {
+    /// The height of a tree.
+    fn height_of(&self, root: u16) -> u8
+        requires { (t : Tree) × Carries (pool_of self.now) root t }
+        ensures { (t : Tree) → Carries (pool_of self.now) root t → result ≡ height t }
+    {
+        root_height(&self.nodes[..self.size], root)
+    }
+
+    /// How many nodes are free.
+    fn available(&self) -> u16
+        ensures { result + used_of (pool_of self.now) ≡ length (memory_of (pool_of self.now)) }
+    {
+        self.state.available(&self.nodes[..self.size])
+    }
+
+    /// The root of the last stage's sheet, for a sitting at `recorded`; or why it cannot begin.
+    fn sheet_for(&self, root: u16, recorded: u32) -> Result<u16, Refusal>
+        requires { Readable (memory_of (pool_of self.now)) root }
+        ensures { (t : Tree) → Carries (pool_of self.now) root t → SheetBefore (memory_of (pool_of self.now)) t recorded result }
+    {
+        sheet_before(&self.nodes[..self.size], root, recorded)
+    }
 }
 
 impl<'m, N: NameOrder> Register<'m, N> {
     /// Begins a sitting at a recorded instant. Its working sheet is that of the last stage, or an empty one.
     pub fn begin(&mut self, line: Line, recorded: u32) -> Result<Sitting, Refused<Line>>
         ensures told { Tells (names N.Key.words N.Key.key N.cmp N.NameOrder.named N.NameOrder.name) self.old (begins (line_handle line) recorded) (done_answer result) self.new }
+        ensures lent { SameLoan self.old self.new }
         ensures back { HandsBack line result }
         ensures kept { SameSitting (line_handle line) result }
         ensures same { is_err result ≡ true → self.new ≡ self.old }
@@ -123,12 +165,18 @@ impl<'m, N: NameOrder> Register<'m, N> {
                 why: Refusal::NoSuchLine,
             });
         };
-        let sheet = match sheet_before(&self.pool, record.root, recorded) {
+        let sheet = match self.sheet_for(record.root, recorded) {
             Ok(sheet) => sheet,
             Err(why) => return Err(Refused { handle: line, why }),
         };
         let (place, serial) = line.into_parts();
-        let seated = sit_down(&mut self.pool, record, recorded, sheet);
+        let seated = sit_down(
+            &mut self.nodes[..self.size],
+            &mut self.state,
+            record,
+            recorded,
+            sheet,
+        );
         self.table.put(place, seated);
         Ok(Sitting::from_parts(place, serial))
     }
@@ -136,6 +184,7 @@ impl<'m, N: NameOrder> Register<'m, N> {
     /// Adds the working sheet as the last stage, and gives the line back.
     pub fn commit(&mut self, sitting: Sitting) -> Result<Line, Refused<Sitting>>
         ensures told { Tells (names N.Key.words N.Key.key N.cmp N.NameOrder.named N.NameOrder.name) self.old (commits (sitting_handle sitting)) (done_answer result) self.new }
+        ensures lent { SameLoan self.old self.new }
         ensures back { HandsBack sitting result }
         ensures kept { SameLine (sitting_handle sitting) result }
         ensures same { is_err result ≡ true → self.new ≡ self.old }
@@ -146,20 +195,26 @@ impl<'m, N: NameOrder> Register<'m, N> {
                 why: Refusal::NoSuchLine,
             });
         };
-        if stored_height(&self.pool, record.root) > HIGHEST {
+        if self.height_of(record.root) > HIGHEST {
             return Err(Refused {
                 handle: sitting,
                 why: Refusal::TreeTooHigh,
             });
         }
-        if is_short(self.pool.available()) {
+        if is_short(self.available()) {
             return Err(Refused {
                 handle: sitting,
                 why: Refusal::NodesShort,
             });
         }
         let (place, serial) = sitting.into_parts();
-        let root = add_stage(&mut self.pool, record.root, Instant::from(recorded), sheet);
+        let root = add_stage(
+            &mut self.nodes[..self.size],
+            &mut self.state,
+            record.root,
+            Instant::from(recorded),
+            sheet,
+        );
         self.table.put(place, Record::resting(serial, root));
         Ok(Line::from_parts(place, serial))
     }
@@ -167,6 +222,7 @@ impl<'m, N: NameOrder> Register<'m, N> {
     /// Drops the working sheet, and gives the line back with its old stages.
     pub fn abandon(&mut self, sitting: Sitting) -> Result<Line, Refused<Sitting>>
         ensures told { Tells (names N.Key.words N.Key.key N.cmp N.NameOrder.named N.NameOrder.name) self.old (abandons (sitting_handle sitting)) (done_answer result) self.new }
+        ensures lent { SameLoan self.old self.new }
         ensures back { HandsBack sitting result }
         ensures kept { SameLine (sitting_handle sitting) result }
         ensures same { is_err result ≡ true → self.new ≡ self.old }
@@ -178,7 +234,7 @@ impl<'m, N: NameOrder> Register<'m, N> {
             });
         };
         let (place, serial) = sitting.into_parts();
-        let rested = stand_up(&mut self.pool, record, sheet);
+        let rested = stand_up(&mut self.nodes[..self.size], &mut self.state, record, sheet);
         self.table.put(place, rested);
         Ok(Line::from_parts(place, serial))
     }

@@ -1,7 +1,9 @@
 //! Reading a node, and what a pool is made of.
 
-ghost use Rattle.std.specs.Prelude.{◌≡◌, ◌<◌};
+ghost use Rattle.std.specs.Prelude.{◌≡◌, ◌<◌, List};
+ghost use Rattle.pool.specs.Held.{Held, Holds, HoldsBy};
 ghost use Rattle.pool.specs.Node.{node_at};
+ghost use Rattle.pool.specs.declared.node.Node.{Node as NodeIs};
 ghost use Rattle.pool.specs.Sound.{memory_of, used_of};
 
 use crate::node::Node;
@@ -17,10 +19,12 @@ impl Pool<'_> {
         self.nodes
     }
 
+    #[tactic(auto, unfolding(crate::specs::Held::Holds))]
     /// Where its free list begins, and how many nodes are in use.
     pub fn state(&self) -> PoolState
         ensures free { result.free ≡ self.now.free }
         ensures used { result.used ≡ used_of self.now }
+        ensures held { (mem : List NodeIs) (hs : List Held) → mem ≡ memory_of self.now → Holds self.now hs → HoldsBy mem result hs }
     {
         PoolState {
             free: self.free,

@@ -7,10 +7,10 @@ use Rattle.register.proofs.questions.find_card.Goals as goal
 pub card_of-card-requires : goal.card_of-card-requires
 card_of-card-requires g c =
     let (t, carries, line) = c.requires.carried in
-    readable _ _ _ c.requires.held.1 (_, (c.in_ok-sheet.ensures t carries).1, (sheet-of-line c.args.recorded t line).sheet)
+    readable _ _ c.requires.held (_, (c.in_ok-sheet.ensures t carries).1, (sheet-of-line c.args.recorded t line).sheet)
 
 pub returns : goal.returns
 returns g c = λ t carries.
     let there = c.card_of-card.ensures _ (c.in_ok-sheet.ensures t carries).1 in
-    card-found (names g.N.Key.words g.N.Key.key g.N.Ord.cmp g.N.NameOrder.named g.N.NameOrder.name) c.args.pool.now t c.args.recorded c.args.name c.in_ok-sheet.sheet c.card_of-card.result (c.in_ok-sheet.ensures t carries)
-    (omega (arith, c.stored_height.ensures _ there)) there
+    card-found (names g.N.Key.words g.N.Key.key g.N.Ord.cmp g.N.NameOrder.named g.N.NameOrder.name) c.args.nodes.now t c.args.recorded c.args.name c.in_ok-sheet.sheet c.card_of-card.result (c.in_ok-sheet.ensures t carries)
+    (omega (arith, c.root_height.ensures _ there)) there

@@ -14,6 +14,7 @@ returns-in-Some c =
           (subst (Stands change) c.in-Some.is stands) h;
       used = c.insert.ensures.used;
       size = c.insert.ensures.size;
+      lent = c.insert.ensures.lent;
     }
 
 pub returns-in-None : goal.returns-in-None
@@ -24,4 +25,5 @@ returns-in-None c =
           (subst (Stands change) c.in-None.is stands) h;
       used = λ t carries. omega (arith, c.remove.ensures.used t carries);
       size = c.remove.ensures.size;
+      lent = c.remove.ensures.lent;
     }

@@ -2,42 +2,46 @@ use Rattle.std.proofs.Common.{Some, refl, ◌∙◌}
 use Rattle.register.specs.Tables.{line_of, resting_record}
 use Rattle.register.proofs.Ending.{abandoned, kept-abandoned, seat, sheet-first, unabandoned}
 use Rattle.register.proofs.Keeping.{the_places}
-use Rattle.register.proofs.Telling.{ghosts, never, put-at}
+use Rattle.register.proofs.Memory.{by-parts, left_in, reopened, rewritten, shown-joined}
+use Rattle.register.proofs.Telling.{put-at}
+use Rattle.pool.proofs.Pools.{holds-in}
 use Rattle.register.proofs.register.Register.abandon.Goals as goal
+use Rattle.register.specs.Registers.{pool_of}
 
-pub returns-in_default : goal.returns-in_default
-returns-in_default g c =
+pub returns-in_default-clause-told : goal.returns-in_default-clause-told
+returns-in_default-clause-told g c =
     let self = c.args.self.now in
-    record {
-      told = unabandoned self.pool self.table.lines c.args.sitting.place c.args.sitting.serial (line_of self.table.lines c.args.sitting.place c.args.sitting.serial) refl c.in_default.ensures.0 _ self.next;
-      back = refl;
-      kept = tt;
-      same = λ _. refl;
-    }
+    unabandoned (pool_of self) self.table.lines c.args.sitting.place c.args.sitting.serial (line_of self.table.lines c.args.sitting.place c.args.sitting.serial) refl c.in_default.ensures.0 _ self.next
+
+pub returns-in_default-clause-same : goal.returns-in_default-clause-same
+returns-in_default-clause-same g c = λ _. reopened c.args.self.now _ _ _ _
 
 pub stand_up-rested-requires : goal.stand_up-rested-requires
 stand_up-rested-requires g c =
     let self = c.args.self.now in
-    let (xs, k) = the_places self.pool self.table.lines self.kept in
-    (_, _, sheet-first self.pool self.table.lines c.args.sitting.place c.args.sitting.serial (Some c.in-Ok.record) c.in-Ok.ensures.0 _ c.in-Ok.sheet c.in-Ok.ensures.1 xs k)
+    let (xs, k) = the_places (pool_of self) self.table.lines self.kept in
+    (_, _, holds-in (pool_of self) _ (sheet-first (pool_of self) self.table.lines c.args.sitting.place c.args.sitting.serial (Some c.in-Ok.record) c.in-Ok.ensures.0 _ c.in-Ok.sheet c.in-Ok.ensures.1 xs k))
 
-pub invariant_of-self : goal.invariant_of-self
-invariant_of-self g c =
+pub invariant_of-self-2 : goal.invariant_of-self-2
+invariant_of-self-2 g c =
     let self = c.args.self.now in
-    let (xs, k) = the_places self.pool self.table.lines self.kept in
-    ghosts c.stand_up-rested.new.pool c.put.new.self.lines _
-    (kept-abandoned self.pool self.table.lines c.args.sitting.place c.args.sitting.serial (Some c.in-Ok.record) c.in-Ok.ensures.0 _ c.in-Ok.sheet c.in-Ok.ensures.1 c.stand_up-rested.new.pool _
-    (put-at self.table.lines _ _ _ _ _ c.put.ensures c.into_parts-place.ensures.place (c.stand_up-rested.ensures.made ∙ (λ i. resting_record ((seat self.pool self.table.lines c.args.sitting.place c.args.sitting.serial (Some c.in-Ok.record) c.in-Ok.ensures.0 _ c.in-Ok.sheet c.in-Ok.ensures.1 xs k).serial-is i) c.in-Ok.record.root))) c.stand_up-rested.ensures.owned xs k)
+    let e = c.stand_up-rested.ensures in
+    let p' = left_in self c.stand_up-rested.new.nodes c.stand_up-rested.new.state e.size in
+    let (xs, k) = the_places (pool_of self) self.table.lines self.kept in
+    rewritten self c.stand_up-rested.new.nodes c.stand_up-rested.new.state e.size c.put.new.self.lines _
+    (kept-abandoned (pool_of self) self.table.lines c.args.sitting.place c.args.sitting.serial (Some c.in-Ok.record) c.in-Ok.ensures.0 _ c.in-Ok.sheet c.in-Ok.ensures.1 p' _
+    (put-at self.table.lines _ _ _ _ _ c.put.ensures c.into_parts-place.ensures.place (c.stand_up-rested.ensures.made ∙ (λ i. resting_record ((seat (pool_of self) self.table.lines c.args.sitting.place c.args.sitting.serial (Some c.in-Ok.record) c.in-Ok.ensures.0 _ c.in-Ok.sheet c.in-Ok.ensures.1 xs k).serial-is i) c.in-Ok.record.root))) (λ t hs. by-parts (pool_of self) p' _ _ (e.owned t hs)) xs k)
 
-pub returns : goal.returns
-returns g c =
+pub returns-clause-told : goal.returns-clause-told
+returns-clause-told g c =
     let self = c.args.self.now in
-    let (xs, k) = the_places self.pool self.table.lines self.kept in
-    record {
-      told = abandoned self.pool self.table.lines c.args.sitting.place c.args.sitting.serial (Some c.in-Ok.record) c.in-Ok.ensures.0 _ c.in-Ok.sheet c.in-Ok.ensures.1 c.stand_up-rested.new.pool _
-          (put-at self.table.lines _ _ _ _ _ c.put.ensures c.into_parts-place.ensures.place (c.stand_up-rested.ensures.made ∙ (λ i. resting_record ((seat self.pool self.table.lines c.args.sitting.place c.args.sitting.serial (Some c.in-Ok.record) c.in-Ok.ensures.0 _ c.in-Ok.sheet c.in-Ok.ensures.1 xs k).serial-is i) c.in-Ok.record.root))) c.stand_up-rested.ensures.owned
-          _ self.next c.stand_up-rested.ensures.fewer c.stand_up-rested.ensures.size;
-      back = tt;
-      kept = λ i. record { place = (c.from_parts.ensures.place ∙ c.into_parts-place.ensures.place) i; serial = (c.from_parts.ensures.serial ∙ c.into_parts-place.ensures.serial) i };
-      same = never;
-    }
+    let e = c.stand_up-rested.ensures in
+    let p' = left_in self c.stand_up-rested.new.nodes c.stand_up-rested.new.state e.size in
+    let (xs, k) = the_places (pool_of self) self.table.lines self.kept in
+    λ s shows. shown-joined self c.stand_up-rested.new.nodes c.stand_up-rested.new.state e.size _ _ _
+    (abandoned (pool_of self) self.table.lines c.args.sitting.place c.args.sitting.serial (Some c.in-Ok.record) c.in-Ok.ensures.0 _ c.in-Ok.sheet c.in-Ok.ensures.1 p' _
+    (put-at self.table.lines _ _ _ _ _ c.put.ensures c.into_parts-place.ensures.place (c.stand_up-rested.ensures.made ∙ (λ i. resting_record ((seat (pool_of self) self.table.lines c.args.sitting.place c.args.sitting.serial (Some c.in-Ok.record) c.in-Ok.ensures.0 _ c.in-Ok.sheet c.in-Ok.ensures.1 xs k).serial-is i) c.in-Ok.record.root))) (λ t hs. by-parts (pool_of self) p' _ _ (e.owned t hs))
+    _ self.next c.stand_up-rested.ensures.fewer c.stand_up-rested.ensures.size s shows)
+
+pub returns-clause-kept : goal.returns-clause-kept
+returns-clause-kept g c = λ i. record { place = (c.from_parts.ensures.place ∙ c.into_parts-place.ensures.place) i; serial = (c.from_parts.ensures.serial ∙ c.into_parts-place.ensures.serial) i }

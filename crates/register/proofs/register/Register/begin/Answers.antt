@@ -3,64 +3,66 @@ use Rattle.register.proofs.Beginning.{began, kept-begun, line-ready, sheet-carri
 use Rattle.register.proofs.Changing.{length-places}
 use Rattle.register.proofs.Keeping.{the_places}
 use Rattle.register.proofs.Owning.{length-owners}
-use Rattle.register.proofs.Telling.{ghosts, never, put-at}
+use Rattle.register.proofs.Memory.{by-parts, left_in, reopened, rewritten, shown-joined}
+use Rattle.register.proofs.Telling.{put-at}
 use Rattle.register.specs.Places.{owners_of}
 use Rattle.register.proofs.Readable.{readable}
 use Rattle.register.specs.Tables.{line_of}
 use Rattle.register.proofs.register.Register.begin.Goals as goal
+use Rattle.register.specs.Registers.{pool_of}
+use Rattle.pool.proofs.Pools.{holds-in, sound-memory}
 
-pub returns-in_default : goal.returns-in_default
-returns-in_default g c =
+pub returns-in_default-clause-told : goal.returns-in_default-clause-told
+returns-in_default-clause-told g c =
     let self = c.args.self.now in
-    record {
-      told = unbegun self.pool self.table.lines c.args.line.place c.args.line.serial (line_of self.table.lines c.args.line.place c.args.line.serial) refl c.args.recorded _ self.next c.in_default.ensures.0;
-      back = refl;
-      kept = tt;
-      same = λ _. refl;
-    }
+    unbegun (pool_of self) self.table.lines c.args.line.place c.args.line.serial (line_of self.table.lines c.args.line.place c.args.line.serial) refl c.args.recorded _ self.next c.in_default.ensures.0
 
-pub sheet_before-requires : goal.sheet_before-requires
-sheet_before-requires g c =
-    let self = c.args.self.now in
-    let (xs, k) = the_places self.pool self.table.lines self.kept in
-    readable _ (owners_of xs) _ k.holds
-    (line-ready self.pool self.table.lines c.args.line.place c.args.line.serial (Some c.in-Ok.record) c.in-Ok.ensures.0 c.args.recorded c.in-Ok.ensures.1 xs k)
+pub returns-in_default-clause-same : goal.returns-in_default-clause-same
+returns-in_default-clause-same g c = λ _. reopened c.args.self.now _ _ _ _
 
-pub returns-in-Err : goal.returns-in-Err
-returns-in-Err g c =
+pub sheet_for-requires : goal.sheet_for-requires
+sheet_for-requires g c =
     let self = c.args.self.now in
-    record {
-      told = unlater self.pool self.table.lines c.args.line.place c.args.line.serial (Some c.in-Ok.record) c.in-Ok.ensures.0 c.args.recorded c.in-Ok.ensures.1 _ self.next _ c.in-Err.ensures;
-      back = refl;
-      kept = tt;
-      same = λ _. refl;
-    }
+    let (xs, k) = the_places (pool_of self) self.table.lines self.kept in
+    readable _ _ (sound-memory (pool_of self) (owners_of xs) k.holds)
+    (line-ready (pool_of self) self.table.lines c.args.line.place c.args.line.serial (Some c.in-Ok.record) c.in-Ok.ensures.0 c.args.recorded c.in-Ok.ensures.1 xs k)
+
+pub returns-in-Err-clause-told : goal.returns-in-Err-clause-told
+returns-in-Err-clause-told g c =
+    let self = c.args.self.now in
+    unlater (pool_of self) self.table.lines c.args.line.place c.args.line.serial (Some c.in-Ok.record) c.in-Ok.ensures.0 c.args.recorded c.in-Ok.ensures.1 _ self.next _ c.in-Err.ensures
+
+pub returns-in-Err-clause-same : goal.returns-in-Err-clause-same
+returns-in-Err-clause-same g c = λ _. reopened c.args.self.now _ _ _ _
 
 pub sit_down-seated-requires : goal.sit_down-seated-requires
 sit_down-seated-requires g c =
     let self = c.args.self.now in
-    let (xs, k) = the_places self.pool self.table.lines self.kept in
-    let few = length-places self.pool self.table.lines xs k in
+    let (xs, k) = the_places (pool_of self) self.table.lines self.kept in
+    let few = length-places (pool_of self) self.table.lines xs k in
     record {
-      held = (owners_of xs, k.holds, omega (arith, few, length-owners xs, self.table.sized));
-      carried = (_, sheet-carried self.pool self.table.lines c.args.line.place c.args.line.serial (Some c.in-Ok.record) c.in-Ok.ensures.0 c.args.recorded c.in-Ok.ensures.1 c.in-Ok-sheet_before.sheet c.in-Ok-sheet_before.ensures xs k);
+      held = (owners_of xs, holds-in (pool_of self) _ k.holds, omega (arith, few, length-owners xs, self.table.sized));
+      carried = (_, sheet-carried (pool_of self) self.table.lines c.args.line.place c.args.line.serial (Some c.in-Ok.record) c.in-Ok.ensures.0 c.args.recorded c.in-Ok.ensures.1 c.in-Ok-sheet_for.sheet c.in-Ok-sheet_for.ensures xs k);
     }
 
-pub invariant_of-self : goal.invariant_of-self
-invariant_of-self g c =
+pub invariant_of-self-2 : goal.invariant_of-self-2
+invariant_of-self-2 g c =
     let self = c.args.self.now in
-    let (xs, k) = the_places self.pool self.table.lines self.kept in
-    ghosts c.sit_down-seated.new.pool c.put.new.self.lines _
-    (kept-begun self.pool self.table.lines c.args.line.place c.args.line.serial (Some c.in-Ok.record) c.in-Ok.ensures.0 c.args.recorded c.in-Ok.ensures.1 c.in-Ok-sheet_before.sheet c.in-Ok-sheet_before.ensures
-    c.sit_down-seated.new.pool _ (put-at self.table.lines _ _ _ _ _ c.put.ensures c.into_parts-place.ensures.place c.sit_down-seated.ensures.made) c.sit_down-seated.ensures.owned xs k)
+    let e = c.sit_down-seated.ensures in
+    let p' = left_in self c.sit_down-seated.new.nodes c.sit_down-seated.new.state e.size in
+    let (xs, k) = the_places (pool_of self) self.table.lines self.kept in
+    rewritten self c.sit_down-seated.new.nodes c.sit_down-seated.new.state e.size c.put.new.self.lines _
+    (kept-begun (pool_of self) self.table.lines c.args.line.place c.args.line.serial (Some c.in-Ok.record) c.in-Ok.ensures.0 c.args.recorded c.in-Ok.ensures.1 c.in-Ok-sheet_for.sheet c.in-Ok-sheet_for.ensures
+    p' _ (put-at self.table.lines _ _ _ _ _ c.put.ensures c.into_parts-place.ensures.place c.sit_down-seated.ensures.made) (λ t hs h carries. by-parts (pool_of self) p' _ _ (λ held. e.owned t hs held carries) h) xs k)
 
-pub returns : goal.returns
-returns g c =
+pub returns-clause-told : goal.returns-clause-told
+returns-clause-told g c =
     let self = c.args.self.now in
-    record {
-      told = began self.pool self.table.lines c.args.line.place c.args.line.serial (Some c.in-Ok.record) c.in-Ok.ensures.0 c.args.recorded c.in-Ok.ensures.1 c.in-Ok-sheet_before.sheet c.in-Ok-sheet_before.ensures
-          c.sit_down-seated.new.pool _ (put-at self.table.lines _ _ _ _ _ c.put.ensures c.into_parts-place.ensures.place c.sit_down-seated.ensures.made) c.sit_down-seated.ensures.owned _ self.next c.sit_down-seated.ensures.size c.sit_down-seated.ensures.used;
-      back = tt;
-      kept = λ i. record { place = (c.from_parts.ensures.place ∙ c.into_parts-place.ensures.place) i; serial = (c.from_parts.ensures.serial ∙ c.into_parts-place.ensures.serial) i };
-      same = never;
-    }
+    let e = c.sit_down-seated.ensures in
+    let p' = left_in self c.sit_down-seated.new.nodes c.sit_down-seated.new.state e.size in
+    λ s shows. shown-joined self c.sit_down-seated.new.nodes c.sit_down-seated.new.state e.size _ _ _
+    (began (pool_of self) self.table.lines c.args.line.place c.args.line.serial (Some c.in-Ok.record) c.in-Ok.ensures.0 c.args.recorded c.in-Ok.ensures.1 c.in-Ok-sheet_for.sheet c.in-Ok-sheet_for.ensures
+    p' _ (put-at self.table.lines _ _ _ _ _ c.put.ensures c.into_parts-place.ensures.place c.sit_down-seated.ensures.made) (λ t hs h carries. by-parts (pool_of self) p' _ _ (λ held. e.owned t hs held carries) h) _ self.next c.sit_down-seated.ensures.size c.sit_down-seated.ensures.used s shows)
+
+pub returns-clause-kept : goal.returns-clause-kept
+returns-clause-kept g c = λ i. record { place = (c.from_parts.ensures.place ∙ c.into_parts-place.ensures.place) i; serial = (c.from_parts.ensures.serial ∙ c.into_parts-place.ensures.serial) i }

@@ -1,69 +1,61 @@
-use Rattle.std.proofs.Common.{refl, ◌∙◌, arith, Some}
+use Rattle.std.proofs.Common.{refl, arith, Some}
+use Rattle.pool.proofs.Pools.{holds-in}
 use Rattle.register.specs.Calls.{handed}
 use Rattle.register.proofs.Changing.{length-places}
 use Rattle.register.proofs.Keeping.{the_places}
+use Rattle.register.proofs.Memory.{by-parts, left_in, reopened, rewritten, shown-joined}
 use Rattle.register.proofs.Opening.{branched, crowded, kept-branched, retainable, unbranched}
 use Rattle.register.proofs.Owning.{length-owners}
-use Rattle.register.proofs.Telling.{ghosts, made_at, never, put-at}
+use Rattle.register.proofs.Telling.{put-at}
 use Rattle.register.specs.Places.{owners_of}
+use Rattle.register.specs.Registers.{pool_of}
 use Rattle.register.specs.Tables.{line_of}
 use Rattle.register.proofs.register.Register.branch.Goals as goal
 
-pub returns-in_default : goal.returns-in_default
-returns-in_default g c =
+pub returns-in_default-clause-told : goal.returns-in_default-clause-told
+returns-in_default-clause-told g c =
     let self = c.args.self.now in
-    record {
-      told = unbranched self.pool self.table.lines c.args.line.place c.args.line.serial (line_of self.table.lines c.args.line.place c.args.line.serial) refl self.next _ c.in_default.ensures.0;
-      back = refl;
-      same = λ _. refl;
-    }
+    unbranched (pool_of self) self.table.lines c.args.line.place c.args.line.serial (line_of self.table.lines c.args.line.place c.args.line.serial) refl self.next _ c.in_default.ensures.0
 
-pub returns-in-Err : goal.returns-in-Err
-returns-in-Err g c =
+pub returns-in_default-clause-same : goal.returns-in_default-clause-same
+returns-in_default-clause-same g c = λ _. reopened c.args.self.now _ _ _ _
+
+pub returns-in-Err-clause-told : goal.returns-in-Err-clause-told
+returns-in-Err-clause-told g c =
     let self = c.args.self.now in
-    record {
-      told = crowded self.pool self.table.lines c.args.line.place c.args.line.serial (Some c.in-Ok.record) c.in-Ok.ensures.0 self.next c.in-Ok.ensures.1 _ _ c.in-Err.ensures;
-      back = refl;
-      same = λ _. refl;
-    }
+    crowded (pool_of self) self.table.lines c.args.line.place c.args.line.serial (Some c.in-Ok.record) c.in-Ok.ensures.0 self.next c.in-Ok.ensures.1 _ _ c.in-Err.ensures
+
+pub returns-in-Err-clause-same : goal.returns-in-Err-clause-same
+returns-in-Err-clause-same g c = λ _. reopened c.args.self.now _ _ _ _
 
 pub branch_off-new-requires : goal.branch_off-new-requires
 branch_off-new-requires g c =
     let self = c.args.self.now in
-    let (pool, table) = c.next_serial-serial.ensures.rest in
-    let (xs, k) = the_places self.pool self.table.lines self.kept in
-    let few = length-places self.pool self.table.lines xs k in
-    rw pool (record {
-      held = (owners_of xs, k.holds, omega (arith, few, length-owners xs, self.table.sized));
-      carried = retainable self.pool self.table.lines c.args.line.place c.args.line.serial (Some c.in-Ok.record) c.in-Ok.ensures.0 self.next c.in-Ok.ensures.1 xs k;
-    })
-
-pub invariant_of-self : goal.invariant_of-self
-invariant_of-self g c =
-    let self = c.args.self.now in
-    let (pool, table) = c.next_serial-serial.ensures.rest in
-    let put = rw table at c.put.ensures in
-    let owned = rw pool at c.branch_off-new.ensures.owned in
-    let (xs, k) = the_places self.pool self.table.lines self.kept in
-    ghosts c.branch_off-new.new.pool c.put.new.self.lines _
-    (kept-branched self.pool self.table.lines c.args.line.place c.args.line.serial (Some c.in-Ok.record) c.in-Ok.ensures.0 self.next c.in-Ok.ensures.1
-    c.in-Ok-vacancy.place c.in-Ok-vacancy.ensures c.branch_off-new.new.pool _ (put-at self.table.lines _ _ _ _ _ put refl (made_at _ _ _ _ c.next_serial-serial.ensures.serial c.branch_off-new.ensures.made)) owned xs k)
-
-pub returns : goal.returns
-returns g c =
-    let self = c.args.self.now in
-    let serial = c.next_serial-serial.ensures.serial in
-    let (pool, table) = c.next_serial-serial.ensures.rest in
-    let put = rw table at c.put.ensures in
-    let owned = rw pool at c.branch_off-new.ensures.owned in
-    let size = rw pool at c.branch_off-new.ensures.size in
-    let used = rw pool at c.branch_off-new.ensures.used in
+    let (xs, k) = the_places (pool_of self) self.table.lines self.kept in
+    let few = length-places (pool_of self) self.table.lines xs k in
     record {
-      told = λ s shows.
-          let (s', shows', step) = branched self.pool self.table.lines c.args.line.place c.args.line.serial (Some c.in-Ok.record) c.in-Ok.ensures.0 self.next c.in-Ok.ensures.1
-          c.in-Ok-vacancy.place c.in-Ok-vacancy.ensures c.branch_off-new.new.pool _ (put-at self.table.lines _ _ _ _ _ put refl (made_at _ _ _ _ serial c.branch_off-new.ensures.made)) owned _ _
-          (λ i. handed (record { place = c.from_parts.ensures.place i; serial = (c.from_parts.ensures.serial ∙ serial) i })) size used s shows in
-          (s', rw c.next_serial-serial.ensures.next shows', step);
-      back = refl;
-      same = never;
+      held = (owners_of xs, holds-in (pool_of self) _ k.holds, omega (arith, few, length-owners xs, self.table.sized));
+      carried = retainable (pool_of self) self.table.lines c.args.line.place c.args.line.serial (Some c.in-Ok.record) c.in-Ok.ensures.0 self.next c.in-Ok.ensures.1 xs k;
     }
+
+pub invariant_of-self-3 : goal.invariant_of-self-3
+invariant_of-self-3 g c =
+    let self = c.args.self.now in
+    let e = c.branch_off-new.ensures in
+    let p' = left_in self c.branch_off-new.new.nodes c.branch_off-new.new.state e.size in
+    let (xs, k) = the_places (pool_of self) self.table.lines self.kept in
+    rewritten self c.branch_off-new.new.nodes c.branch_off-new.new.state e.size c.put.new.self.lines _
+    (kept-branched (pool_of self) self.table.lines c.args.line.place c.args.line.serial (Some c.in-Ok.record) c.in-Ok.ensures.0 self.next c.in-Ok.ensures.1
+    c.in-Ok-vacancy.place c.in-Ok-vacancy.ensures p' _ (put-at self.table.lines _ _ _ _ _ c.put.ensures refl e.made)
+    (λ t hs h carries. by-parts (pool_of self) p' _ _ (λ held. e.owned t hs held carries) h) xs k)
+
+pub returns-clause-told : goal.returns-clause-told
+returns-clause-told g c =
+    let self = c.args.self.now in
+    let e = c.branch_off-new.ensures in
+    let p' = left_in self c.branch_off-new.new.nodes c.branch_off-new.new.state e.size in
+    λ s shows. shown-joined self c.branch_off-new.new.nodes c.branch_off-new.new.state e.size _ _ _
+    (branched (pool_of self) self.table.lines c.args.line.place c.args.line.serial (Some c.in-Ok.record) c.in-Ok.ensures.0 self.next c.in-Ok.ensures.1
+    c.in-Ok-vacancy.place c.in-Ok-vacancy.ensures p' _ (put-at self.table.lines _ _ _ _ _ c.put.ensures refl e.made)
+    (λ t hs h carries. by-parts (pool_of self) p' _ _ (λ held. e.owned t hs held carries) h) _ _
+    (λ i. handed (record { place = c.from_parts.ensures.place i; serial = c.from_parts.ensures.serial i })) e.size e.used s shows)

@@ -1,41 +1,35 @@
 use Rattle.std.proofs.Common.{◌≡◌, sym, refl, ◌∙◌, subst, rules}
 use Rattle.register.specs.Calls.{fetches, handed, line_answer, refused}
 use Rattle.register.specs.Contents.{names}
-use Rattle.register.specs.Registers.{Tells}
+use Rattle.register.specs.Registers.{Tells, pool_of}
 use Rattle.register.proofs.Passing.{passed}
 use Rattle.register.proofs.Keeping.{the_places}
 use Rattle.register.proofs.Shelving.{empty-shelf, fetched, kept-fetched}
-use Rattle.register.proofs.Telling.{ghosts, never, put-at}
+use Rattle.register.proofs.Memory.{unwritten}
+use Rattle.register.proofs.Telling.{put-at}
 use Rattle.register.specs.declared.refusal.Refusal.{Refusal}
 use Rattle.register.specs.declared.refusal.Refusal.TheVariants.{ShelfEmpty}
 use Rattle.register.proofs.register.Register.fetch.Goals as goal
 
-pub returns-in_err-place : goal.returns-in_err-place
-returns-in_err-place g c =
+pub returns-in_err-place-clause-told : goal.returns-in_err-place-clause-told
+returns-in_err-place-clause-told g c =
     let self = c.args.self.now in
     let met : c.in_err-place.field-0.0 ≡ ShelfEmpty = search rules in
-    record {
-      told =
-          passed (λ r. Tells (names g.N.Key.words g.N.Key.key g.N.Ord.cmp g.N.NameOrder.named g.N.NameOrder.name) self (fetches c.args.letter) (line_answer r) self) _ _ c.from_residual.ensures.1
-          (subst (λ (why : Refusal). Tells (names g.N.Key.words g.N.Key.key g.N.Ord.cmp g.N.NameOrder.named g.N.NameOrder.name) self (fetches c.args.letter) (refused why) self) (sym met)
-          (empty-shelf self.pool self.table.lines c.args.letter _ self.next (sym c.is_ascii_uppercase.ensures.value ∙ c.if-not-is_ascii_uppercase.false) (search rules)));
-      same = λ _. refl;
-    }
+    passed (λ r. Tells (names g.N.Key.words g.N.Key.key g.N.Ord.cmp g.N.NameOrder.named g.N.NameOrder.name) self (fetches c.args.letter) (line_answer r) self) _ _ c.from_residual.ensures.1
+    (subst (λ (why : Refusal). Tells (names g.N.Key.words g.N.Key.key g.N.Ord.cmp g.N.NameOrder.named g.N.NameOrder.name) self (fetches c.args.letter) (refused why) self) (sym met)
+    (empty-shelf (pool_of self) self.table.lines c.args.letter _ self.next (sym c.is_ascii_uppercase.ensures.value ∙ c.if-not-is_ascii_uppercase.false) (search rules)))
 
 pub invariant_of-self : goal.invariant_of-self
 invariant_of-self g c =
     let self = c.args.self.now in
-    let (xs, k) = the_places self.pool self.table.lines self.kept in
-    let rests = kept-fetched self.pool self.table.lines c.args.letter c.in_ok-place.place (search rules) c.in_ok-place.record (search rules) _
+    let (xs, k) = the_places (pool_of self) self.table.lines self.kept in
+    let rests = kept-fetched (pool_of self) self.table.lines c.args.letter c.in_ok-place.place (search rules) c.in_ok-place.record (search rules) _
     (put-at self.table.lines _ _ _ _ _ c.put.ensures refl c.rested.ensures) xs k in
-    ghosts self.pool c.put.new.self.lines _ rests.1
+    unwritten self c.put.new.self.lines _ rests.1
 
-pub returns : goal.returns
-returns g c =
+pub returns-clause-told : goal.returns-clause-told
+returns-clause-told g c =
     let self = c.args.self.now in
-    record {
-      told = fetched self.pool self.table.lines c.args.letter c.in_ok-place.place (search rules) c.in_ok-place.record (search rules) _
-          (put-at self.table.lines _ _ _ _ _ c.put.ensures refl c.rested.ensures) _ self.next (sym c.is_ascii_uppercase.ensures.value ∙ c.if-not-is_ascii_uppercase.false) _
-          (λ i. handed (record { place = c.from_parts.ensures.place i; serial = c.from_parts.ensures.serial i }));
-      same = never;
-    }
+    fetched (pool_of self) self.table.lines c.args.letter c.in_ok-place.place (search rules) c.in_ok-place.record (search rules) _
+    (put-at self.table.lines _ _ _ _ _ c.put.ensures refl c.rested.ensures) _ self.next (sym c.is_ascii_uppercase.ensures.value ∙ c.if-not-is_ascii_uppercase.false) _
+    (λ i. handed (record { place = c.from_parts.ensures.place i; serial = c.from_parts.ensures.serial i }))

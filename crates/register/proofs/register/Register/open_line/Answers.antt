@@ -1,38 +1,28 @@
-use Rattle.std.proofs.Common.{refl, ◌∙◌}
+use Rattle.std.proofs.Common.{refl}
 use Rattle.register.specs.Calls.{handed, line_answer, opens}
 use Rattle.register.specs.Contents.{names}
-use Rattle.register.specs.Registers.{Tells}
+use Rattle.register.specs.Registers.{Tells, pool_of}
 use Rattle.register.proofs.Passing.{passed}
 use Rattle.register.proofs.Keeping.{the_places}
+use Rattle.register.proofs.Memory.{unwritten}
 use Rattle.register.proofs.Opening.{kept-opened, opened, unopened}
-use Rattle.register.proofs.Telling.{ghosts, made_at, never, put-at}
+use Rattle.register.proofs.Telling.{put-at}
 use Rattle.register.proofs.register.Register.open_line.Goals as goal
 
-pub returns-in_err-place : goal.returns-in_err-place
-returns-in_err-place g c =
+pub returns-in_err-place-clause-told : goal.returns-in_err-place-clause-told
+returns-in_err-place-clause-told g c =
     let self = c.args.self.now in
-    record {
-      told = passed (λ r. Tells (names g.N.Key.words g.N.Key.key g.N.Ord.cmp g.N.NameOrder.named g.N.NameOrder.name) self opens (line_answer r) self) _ _ c.from_residual.ensures.1 (unopened self.pool self.table.lines self.next _ _ c.in_err-place.ensures);
-      same = λ _. refl;
-    }
+    passed (λ r. Tells (names g.N.Key.words g.N.Key.key g.N.Ord.cmp g.N.NameOrder.named g.N.NameOrder.name) self opens (line_answer r) self) _ _ c.from_residual.ensures.1 (unopened (pool_of self) self.table.lines self.next _ _ c.in_err-place.ensures)
 
 pub invariant_of-self : goal.invariant_of-self
 invariant_of-self g c =
     let self = c.args.self.now in
-    let (pool, table) = c.next_serial-serial.ensures.rest in
-    let put = rw table at c.put.ensures in
-    let (xs, k) = the_places self.pool self.table.lines self.kept in
-    rw pool (ghosts self.pool c.put.new.self.lines _ (kept-opened self.pool self.table.lines self.next c.in_ok-place.place c.in_ok-place.ensures _ (put-at self.table.lines _ _ _ _ _ put refl (made_at _ _ _ 0 c.next_serial-serial.ensures.serial c.resting.ensures)) xs k))
+    let (xs, k) = the_places (pool_of self) self.table.lines self.kept in
+    unwritten self c.put.new.self.lines _
+    (kept-opened (pool_of self) self.table.lines self.next c.in_ok-place.place c.in_ok-place.ensures _ (put-at self.table.lines _ _ _ _ _ c.put.ensures refl c.resting.ensures) xs k)
 
-pub returns : goal.returns
-returns g c =
+pub returns-clause-told : goal.returns-clause-told
+returns-clause-told g c =
     let self = c.args.self.now in
-    let serial = c.next_serial-serial.ensures.serial in
-    let (pool, table) = c.next_serial-serial.ensures.rest in
-    let put = rw table at c.put.ensures in
-    record {
-      told = λ s shows.
-          let (s', shows', step) = opened self.pool self.table.lines self.next c.in_ok-place.place c.in_ok-place.ensures _ (put-at self.table.lines _ _ _ _ _ put refl (made_at _ _ _ 0 serial c.resting.ensures)) _ _ (λ i. handed (record { place = c.from_parts.ensures.place i; serial = (c.from_parts.ensures.serial ∙ serial) i })) s shows in
-          (s', rw (pool, c.next_serial-serial.ensures.next) shows', step);
-      same = never;
-    }
+    opened (pool_of self) self.table.lines self.next c.in_ok-place.place c.in_ok-place.ensures _ (put-at self.table.lines _ _ _ _ _ c.put.ensures refl c.resting.ensures) _ _
+    (λ i. handed (record { place = c.from_parts.ensures.place i; serial = c.from_parts.ensures.serial i }))

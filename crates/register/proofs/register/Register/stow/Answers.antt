@@ -1,33 +1,27 @@
 use Rattle.std.proofs.Common.{Some, refl}
 use Rattle.register.proofs.Keeping.{the_places}
 use Rattle.register.proofs.Shelving.{kept-stowed, stowed-on, unstowed}
-use Rattle.register.proofs.Telling.{ghosts, never, put-at}
+use Rattle.register.proofs.Memory.{unwritten}
+use Rattle.register.proofs.Telling.{put-at}
 use Rattle.register.specs.Tables.{line_of}
 use Rattle.register.proofs.register.Register.stow.Goals as goal
+use Rattle.register.specs.Registers.{pool_of}
 
-pub returns-in-Err : goal.returns-in-Err
-returns-in-Err g c =
+pub returns-in-Err-clause-told : goal.returns-in-Err-clause-told
+returns-in-Err-clause-told g c =
     let self = c.args.self.now in
-    record {
-      told = unstowed self.pool self.table.lines c.args.line.place c.args.line.serial (line_of self.table.lines c.args.line.place c.args.line.serial) refl c.args.letter _ self.next _ c.in-Err.ensures;
-      back = refl;
-      same = λ _. refl;
-    }
+    unstowed (pool_of self) self.table.lines c.args.line.place c.args.line.serial (line_of self.table.lines c.args.line.place c.args.line.serial) refl c.args.letter _ self.next _ c.in-Err.ensures
 
 pub invariant_of-self : goal.invariant_of-self
 invariant_of-self g c =
     let self = c.args.self.now in
-    let (xs, k) = the_places self.pool self.table.lines self.kept in
-    let stowed = kept-stowed self.pool self.table.lines c.args.line.place c.args.line.serial (Some c.in-Ok.record) c.in-Ok.ensures.0 c.args.letter c.in-Ok.ensures.1 _
+    let (xs, k) = the_places (pool_of self) self.table.lines self.kept in
+    let stowed = kept-stowed (pool_of self) self.table.lines c.args.line.place c.args.line.serial (Some c.in-Ok.record) c.in-Ok.ensures.0 c.args.letter c.in-Ok.ensures.1 _
     (put-at self.table.lines _ _ _ _ _ c.put.ensures c.into_parts-place.ensures.place c.stowed.ensures) xs k in
-    ghosts self.pool c.put.new.self.lines _ stowed.1
+    unwritten self c.put.new.self.lines _ stowed.1
 
-pub returns : goal.returns
-returns g c =
+pub returns-clause-told : goal.returns-clause-told
+returns-clause-told g c =
     let self = c.args.self.now in
-    record {
-      told = stowed-on self.pool self.table.lines c.args.line.place c.args.line.serial (Some c.in-Ok.record) c.in-Ok.ensures.0 c.args.letter c.in-Ok.ensures.1 _
-          (put-at self.table.lines _ _ _ _ _ c.put.ensures c.into_parts-place.ensures.place c.stowed.ensures) _ self.next;
-      back = tt;
-      same = never;
-    }
+    stowed-on (pool_of self) self.table.lines c.args.line.place c.args.line.serial (Some c.in-Ok.record) c.in-Ok.ensures.0 c.args.letter c.in-Ok.ensures.1 _
+    (put-at self.table.lines _ _ _ _ _ c.put.ensures c.into_parts-place.ensures.place c.stowed.ensures) _ self.next

@@ -1,0 +1,5 @@
+use Rattle.std.proofs.Common.{rules}
+use Rattle.register.proofs.sittings.add_stage.Goals as goal
+
+pub returns-clause-owned : goal.returns-clause-owned
+returns-clause-owned c = λ t nested hs h. c.state.ensures.held _ _ (search rules) (c.insert-stages.ensures.owned t nested hs (c.over-pool.ensures.held _ h))
