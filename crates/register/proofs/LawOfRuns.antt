@@ -2,6 +2,7 @@
 use Rattle.std.proofs.Common.{◌≡◌, ℕ, ◌<◌, true, false, List, ◌∷◌, ◌++◌, map, None, sym, refl, ap, ◌∙◌, subst, arith}
 use Rattle.kinds.specs.declared.name.Name.{Name}
 use Rattle.tree.specs.Kind.{Kind}
+use Rattle.pool.specs.declared.pool.Pool.{Pool}
 use Rattle.register.proofs.Accepting.{resting-at, row-false, row-true}
 use Rattle.register.proofs.Answerable.{answerable}
 use Rattle.register.proofs.Bounding.{step-bounded, step-refuses, turn_at, turns-accounted}
@@ -11,7 +12,7 @@ use Rattle.register.proofs.Retelling.{new-recounted, recounted-last, recounted-s
 use Rattle.register.proofs.Returning.{all-given-back}
 use Rattle.register.proofs.Serials.{Numbered, below_next, new-numbered, next-step, numbered_step}
 use Rattle.register.proofs.Settling.{Settled, settled-last, settled-step}
-use Rattle.register.proofs.Splitting.{Seen, by-step, follows-back, follows-front, kept-last, shown-append, shown-last}
+use Rattle.register.proofs.Splitting.{Seen, by-step, follows-back, follows-front, kept-last, left-unchanged, shown-append, shown-last}
 use Rattle.register.proofs.Staging.{sheet-as-of}
 use Rattle.register.proofs.Timed.{names_of}
 use Rattle.register.specs.Answering.{Branched, SettledAt, is_answer}
@@ -21,7 +22,7 @@ use Rattle.register.specs.Contents.{Names}
 use Rattle.register.specs.Declined.{crossed, declined, misnamed}
 use Rattle.register.specs.Histories.{Histories, after_call, nothing_told, told_by, told_from}
 use Rattle.register.specs.History.{Entry, known_at}
-use Rattle.register.specs.Law.{Follows, Law, Turn, call_with_answer, history_after, shown_after}
+use Rattle.register.specs.Law.{EveryRun, Follows, Law, LeavesNodes, Turn, call_with_answer, history_after, shown_after}
 use Rattle.register.specs.Places.{is_resting}
 use Rattle.register.specs.Shown.{Shown, at, newly_made}
 use Rattle.register.specs.Steps.{Step, answer_to}
@@ -67,7 +68,7 @@ module _ {K : Type 0} (𝓚 : Kind K) (named : Name → K) (called : K → Name)
       ∙ ap (λ (known : List Entry). answer_to 𝓝 s' q (sheet_after 𝓝 known)) same
       ∙ sym (known-answer told s g r q a was.replies))
 
-  module _ (nodes first : ℕ) (turns : List Turn) (run : Follows 𝓝 (newly_made nodes first) turns) where
+  module _ (made : Pool) (nodes first : ℕ) (turns : List Turn) (run : Follows 𝓝 (newly_made nodes first) turns) (leaves : LeavesNodes made turns) where
     abbrev start : Shown
     start = newly_made nodes first
 
@@ -112,13 +113,14 @@ module _ {K : Type 0} (𝓚 : Kind K) (named : Name → K) (called : K → Name)
         (subst (λ (z : Shown). is_resting (at z h) ≡ true) (shown-append start front (t ∷ between)) rests)
         end.known_is
 
-    law : Law 𝓝 start turns
+    law : Law 𝓝 made start turns
     law =
         record {
           accounted = turns-accounted 𝓝 start turns run;
           bounded = λ front behind t e. step-bounded 𝓝 (shown_after start front) t.after t.call t.answer (turn_at 𝓝 start turns front behind t e run);
           given_back = λ front behind e same. all-given-back 𝓝 nodes first turns front behind run e same;
           refusals = λ front behind t e. step-refuses 𝓝 (shown_after start front) t (turn_at 𝓝 start turns front behind t e run);
+          unchanged = λ front behind t e. left-unchanged made front behind t (subst (LeavesNodes made) e leaves);
           answered = λ front behind t e g r q call-is.
               let s : Shown = shown_after start front in
               step-answered 𝓚 named called back (told-after front) s t.after g r q t.answer (recounted-at front (t ∷ behind) e)
@@ -126,7 +128,6 @@ module _ {K : Type 0} (𝓚 : Kind K) (named : Name → K) (called : K → Name)
           fixed = answers-fixed;
         }
 
--- for every lawful order of names, every number of nodes and every first serial
-pub law-of-runs : {K : Type 0} (𝓚 : Kind K) (named : Name → K) (called : K → Name) → ((n : Name) → called (named n) ≡ n) → (nodes first : ℕ) (turns : List Turn)
-    → Follows (names_of 𝓚 named called) (newly_made nodes first) turns → Law (names_of 𝓚 named called) (newly_made nodes first) turns
-law-of-runs 𝓚 named called back nodes first turns run = law 𝓚 named called back nodes first turns run
+-- for every lawful order of names
+pub law-of-runs : {K : Type 0} (𝓚 : Kind K) (named : Name → K) (called : K → Name) → ((n : Name) → called (named n) ≡ n) → EveryRun (names_of 𝓚 named called)
+law-of-runs 𝓚 named called back made nodes first turns run leaves = law 𝓚 named called back made nodes first turns run leaves

@@ -12,7 +12,7 @@ use Rattle.register.specs.Contents.{Names}
 use Rattle.register.specs.Declined.{declined}
 use Rattle.register.specs.Law.{Follows, Turn, call_with_answer, is_done, is_handed, shown_after}
 use Rattle.register.specs.Places.{Doing, Place, free, is_resting, live, live_in, none, resting, sitting, stowed}
-use Rattle.register.specs.Runs.{Runs}
+use Rattle.register.specs.Runs.{Moment, Runs}
 use Rattle.register.specs.Shelves.{Bare, is_laid, laid_in}
 use Rattle.register.specs.Shown.{Shown, at, next_handle}
 use Rattle.register.specs.Steps.{Step, on_shelf}
@@ -108,10 +108,10 @@ module _ {K : Type 0} (𝓝 : Names K) where
   hands-turns s (t ∷ ts) f = omega (arith, hands-step s t.after t.call t.answer f.0, hands-turns t.after ts f.2)
 
   -- how many live lines lie on no shelf is told by the calls
-  pub runs_hands : (s s' : Shown) (calls : List (Call × Answer)) → Runs 𝓝 s calls s'
-      → live_in s'.places + laid_in s.places + given calls ≡ live_in s.places + laid_in s'.places + taken calls
-  runs_hands s s' calls runs =
-      omega (arith, hands-turns s runs.turns runs.follows, ap given runs.calls_are, ap taken runs.calls_are, ap (λ (z : Shown). live_in z.places) runs.ends, ap (λ (z : Shown). laid_in z.places) runs.ends)
+  pub runs_hands : (m m' : Moment) (calls : List (Call × Answer)) → Runs 𝓝 m calls m'
+      → live_in m'.shown.places + laid_in m.shown.places + given calls ≡ live_in m.shown.places + laid_in m'.shown.places + taken calls
+  runs_hands m m' calls runs =
+      omega (arith, hands-turns m.shown runs.turns runs.follows, ap given runs.calls_are, ap taken runs.calls_are, ap (λ (z : Shown). live_in z.places) runs.ends, ap (λ (z : Shown). laid_in z.places) runs.ends)
 
   -- every live line lies on a shelf, and all shelves are bare
   pub unused : (s : Shown) → Seen 𝓝 s → live_in s.places ≡ laid_in s.places → ((letter : ℕ) → is_letter letter ≡ true → Bare s.places letter) → s.used ≡ 0

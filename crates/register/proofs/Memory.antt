@@ -15,7 +15,7 @@ use Rattle.register.specs.Contents.{Names}
 use Rattle.register.specs.Entries.{Enterable}
 use Rattle.register.specs.Kept.{Kept, pool_in}
 use Rattle.register.specs.Places.{Place}
-use Rattle.register.specs.Registers.{pool_of}
+use Rattle.register.specs.Registers.{SameLoan, pool_of}
 use Rattle.register.specs.Shown.{Shown, Shows}
 use Rattle.register.specs.declared.register.Register.{Register}
 use Rattle.register.specs.declared.table.Record.{Record}
@@ -39,6 +39,19 @@ reopened r small within counted kept = λ i. record {
   counted = le-prop _ _ counted r.counted i;
   kept = ∥∥₁_prop kept r.kept i;
 }
+
+-- what one call keeps of the loan, and then another
+pub loan-then : {N : Type 0} (a b c : Register N) → SameLoan a b → SameLoan b c → SameLoan a c
+loan-then a b c first then = record {
+  borrow = then.borrow ∙ first.borrow;
+  size = then.size ∙ first.size;
+  behind = subst (λ (n : ℕ). drop n c.nodes.now ≡ drop n b.nodes.now) first.size then.behind ∙ first.behind;
+}
+
+-- what lies behind the register's nodes is as it was before the register was made
+pub loan-behind : {N : Type 0} (a b : Register N) → SameLoan a b → (mem : List Node) → drop a.size a.nodes.now ≡ drop a.size mem → drop b.size b.nodes.now ≡ drop b.size mem
+loan-behind a b loan mem made =
+    subst (λ (n : ℕ). drop n b.nodes.now ≡ drop n mem) (sym loan.size) (loan.behind ∙ made)
 
 -- what the parts of two pools hold, the pools hold
 pub by-parts : (p q : Pool) (hs hs' : List Held) → (HoldsIn (memory_of p) p.free p.used hs → HoldsIn (memory_of q) q.free q.used hs') → Holds p hs → Holds q hs'

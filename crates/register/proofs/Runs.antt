@@ -2,12 +2,13 @@
 use Rattle.std.proofs.Common.{◌≡◌, ℕ, Bool, true, false, List, [], ◌∷◌, ◌++◌, map, length, get_or, drop, Some, None, Option, sym, refl, ap, ◌∙◌, subst, arith}
 use Rattle.std.proofs.lemmas.List.{map-append}
 use Rattle.pool.specs.declared.pool.Pool.{Pool}
-use Rattle.register.proofs.Splitting.{follows-append, kept-last, plainly, shown-append}
+use Rattle.register.proofs.Splitting.{follows-append, kept-last, leaves-append, plainly, pool-append, shown-append}
+use Rattle.register.specs.Answering.{leaves_nodes}
 use Rattle.register.specs.Calls.{Answer, Call, abandons, as_of, asks, begins, branches, commits, counted, done, enters, fetches, found, handed, named, next_name, opens, refused, retires, stows, tallies, total, totalled}
 use Rattle.register.specs.Contents.{Names}
 use Rattle.register.specs.Declined.{declined}
-use Rattle.register.specs.Law.{Follows, Turn, call_with_answer, shown_after}
-use Rattle.register.specs.Runs.{Runs}
+use Rattle.register.specs.Law.{Follows, LeavesNodes, Turn, call_with_answer, pool_after, shown_after}
+use Rattle.register.specs.Runs.{Moment, Runs}
 use Rattle.register.specs.Shown.{Shown, Shows}
 use Rattle.register.specs.Steps.{Accepted, Step, Unless}
 use Rattle.register.specs.declared.refusal.Refusal.{Refusal}
@@ -26,55 +27,64 @@ is_refused (totalled count sum) = false
 is_refused (named name) = false
 
 module _ {K : Type 0} (𝓝 : Names K) where
-  pub runs_none : (s : Shown) → Runs 𝓝 s [] s
-  runs_none s = record { turns = []; calls_are = refl; follows = tt; ends = refl }
+  pub runs_none : (m : Moment) → Runs 𝓝 m [] m
+  runs_none m = record { turns = []; calls_are = refl; follows = tt; leaves = tt; ends = refl; last = refl }
 
-  -- a call that is a step, to what a register with this pool, these records and this next serial shows, and then the others
-  pub runs_more : (s t s' : Shown) (call : Call) (a : Answer) (calls : List (Call × Answer)) (p : Pool) (ls : List (Option Record)) (next : ℕ)
-      → Step 𝓝 s call a t → Shows 𝓝 p ls next t → Runs 𝓝 t calls s' → Runs 𝓝 s ((call, a) ∷ calls) s'
-  runs_more s t s' call a calls p ls next step shows runs = record {
-    turns = record { call = call; answer = a; pool = p; after = t } ∷ runs.turns;
+  -- a call that is a step, to what a register with these records and this next serial shows, and then the others
+  pub runs_more : (m n m' : Moment) (call : Call) (a : Answer) (calls : List (Call × Answer)) (ls : List (Option Record)) (next : ℕ)
+      → Step 𝓝 m.shown call a n.shown → (leaves_nodes call a ≡ true → n.pool ≡ m.pool) → Shows 𝓝 n.pool ls next n.shown → Runs 𝓝 n calls m'
+      → Runs 𝓝 m ((call, a) ∷ calls) m'
+  runs_more m n m' call a calls ls next step left shows runs = record {
+    turns = record { call = call; answer = a; pool = n.pool; after = n.shown } ∷ runs.turns;
     calls_are = ap (λ (cs : List (Call × Answer)). (call, a) ∷ cs) runs.calls_are;
-    follows = (step, plainly 𝓝 p ls next t shows, runs.follows);
+    follows = (step, plainly 𝓝 n.pool ls next n.shown shows, runs.follows);
+    leaves = (left, runs.leaves);
     ends = runs.ends;
+    last = runs.last;
   }
 
-  pub runs_one : (s t : Shown) (call : Call) (a : Answer) (p : Pool) (ls : List (Option Record)) (next : ℕ) → Step 𝓝 s call a t → Shows 𝓝 p ls next t → Runs 𝓝 s ((call, a) ∷ []) t
-  runs_one s t call a p ls next step shows = runs_more s t t call a [] p ls next step shows (runs_none t)
+  pub runs_one : (m n : Moment) (call : Call) (a : Answer) (ls : List (Option Record)) (next : ℕ)
+      → Step 𝓝 m.shown call a n.shown → (leaves_nodes call a ≡ true → n.pool ≡ m.pool) → Shows 𝓝 n.pool ls next n.shown → Runs 𝓝 m ((call, a) ∷ []) n
+  runs_one m n call a ls next step left shows = runs_more m n n call a [] ls next step left shows (runs_none n)
 
-  pub runs_append : (s t s' : Shown) (calls more : List (Call × Answer)) → Runs 𝓝 s calls t → Runs 𝓝 t more s' → Runs 𝓝 s (calls ++ more) s'
-  runs_append s t s' calls more first then =
-      let behind : Follows 𝓝 (shown_after s first.turns) then.turns = subst (λ (z : Shown). Follows 𝓝 z then.turns) (sym first.ends) then.follows in
+  pub runs_append : (m n m' : Moment) (calls more : List (Call × Answer)) → Runs 𝓝 m calls n → Runs 𝓝 n more m' → Runs 𝓝 m (calls ++ more) m'
+  runs_append m n m' calls more first then =
+      let behind : Follows 𝓝 (shown_after m.shown first.turns) then.turns = subst (λ (z : Shown). Follows 𝓝 z then.turns) (sym first.ends) then.follows in
+      let left : LeavesNodes (pool_after m.pool first.turns) then.turns = subst (λ (z : Pool). LeavesNodes z then.turns) (sym first.last) then.leaves in
       record {
         turns = first.turns ++ then.turns;
         calls_are = map-append call_with_answer first.turns then.turns ∙ ap (λ (cs : List (Call × Answer)). cs ++ map call_with_answer then.turns) first.calls_are ∙ ap (λ (cs : List (Call × Answer)). calls ++ cs) then.calls_are;
-        follows = follows-append 𝓝 s first.turns then.turns first.follows behind;
-        ends = shown-append s first.turns then.turns ∙ ap (λ (z : Shown). shown_after z then.turns) first.ends ∙ then.ends;
+        follows = follows-append 𝓝 m.shown first.turns then.turns first.follows behind;
+        leaves = leaves-append m.pool first.turns then.turns first.leaves left;
+        ends = shown-append m.shown first.turns then.turns ∙ ap (λ (z : Shown). shown_after z then.turns) first.ends ∙ then.ends;
+        last = pool-append m.pool first.turns then.turns ∙ ap (λ (z : Pool). pool_after z then.turns) first.last ∙ then.last;
       }
 
   -- the first step of a run, and the run of the other calls; and past the last call the run is over
-  pub runs_first : (s s' : Shown) (call : Call × Answer) (calls : List (Call × Answer)) → Runs 𝓝 s (call ∷ calls) s' → (t : Shown) × Step 𝓝 s call.0 call.1 t × Runs 𝓝 t calls s'
-  runs_first s s' call calls runs = go runs.turns runs.calls_are runs.follows runs.ends
+  pub runs_first : (m m' : Moment) (call : Call × Answer) (calls : List (Call × Answer)) → Runs 𝓝 m (call ∷ calls) m'
+      → (n : Moment) × Step 𝓝 m.shown call.0 call.1 n.shown × Runs 𝓝 n calls m'
+  runs_first m m' call calls runs = go runs.turns runs.calls_are runs.follows runs.leaves runs.ends runs.last
     where
-      go : (turns : List Turn) → map call_with_answer turns ≡ call ∷ calls → Follows 𝓝 s turns → shown_after s turns ≡ s' → (t : Shown) × Step 𝓝 s call.0 call.1 t × Runs 𝓝 t calls s'
-      go [] e f ends = absurd (let z = ap length e in omega arith)
-      go (t ∷ ts) e f ends = (
-        t.after,
-        subst (λ (c : Call × Answer). Step 𝓝 s c.0 c.1 t.after) (ap (λ (cs : List (Call × Answer)). get_or cs 0 call) e) f.0,
-        record { turns = ts; calls_are = ap (drop 1) e; follows = f.2; ends = ends },
+      go : (turns : List Turn) → map call_with_answer turns ≡ call ∷ calls → Follows 𝓝 m.shown turns → LeavesNodes m.pool turns → shown_after m.shown turns ≡ m'.shown → pool_after m.pool turns ≡ m'.pool
+          → (n : Moment) × Step 𝓝 m.shown call.0 call.1 n.shown × Runs 𝓝 n calls m'
+      go [] e f l ends last = absurd (let z = ap length e in omega arith)
+      go (t ∷ ts) e f l ends last = (
+        record { pool = t.pool; shown = t.after },
+        subst (λ (c : Call × Answer). Step 𝓝 m.shown c.0 c.1 t.after) (ap (λ (cs : List (Call × Answer)). get_or cs 0 call) e) f.0,
+        record { turns = ts; calls_are = ap (drop 1) e; follows = f.2; leaves = l.1; ends = ends; last = last },
       )
 
-  pub runs_over : (s s' : Shown) → Runs 𝓝 s [] s' → s ≡ s'
-  runs_over s s' runs = go runs.turns runs.calls_are runs.ends
+  pub runs_over : (m m' : Moment) → Runs 𝓝 m [] m' → m.shown ≡ m'.shown
+  runs_over m m' runs = go runs.turns runs.calls_are runs.ends
     where
-      go : (turns : List Turn) → map call_with_answer turns ≡ [] → shown_after s turns ≡ s' → s ≡ s'
+      go : (turns : List Turn) → map call_with_answer turns ≡ [] → shown_after m.shown turns ≡ m'.shown → m.shown ≡ m'.shown
       go [] e ends = ends
       go (t ∷ ts) e ends = absurd (let z = ap length e in omega arith)
 
   -- what every step keeps is true at the end of a run
   pub runs_keep : (P : Shown → Type 0) → ((s s' : Shown) (call : Call) (a : Answer) → Step 𝓝 s call a s' → P s → P s')
-      → (s s' : Shown) (calls : List (Call × Answer)) → Runs 𝓝 s calls s' → P s → P s'
-  runs_keep P keep s s' calls runs here = subst P runs.ends (kept-last 𝓝 P keep s runs.turns here runs.follows)
+      → (m m' : Moment) (calls : List (Call × Answer)) → Runs 𝓝 m calls m' → P m.shown → P m'.shown
+  runs_keep P keep m m' calls runs here = subst P runs.ends (kept-last 𝓝 P keep m.shown runs.turns here runs.follows)
 
   module _ (s s' : Shown) where
     -- an accepted call is not refused

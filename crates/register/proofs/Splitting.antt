@@ -1,10 +1,11 @@
 -- Turns that follow one another, split in two: what is shown at the split, and what a step comes to there.
-use Rattle.std.proofs.Common.{◌≡◌, ℕ, List, [], ◌∷◌, ◌++◌, map, Some, None, Option, refl, subst}
+use Rattle.std.proofs.Common.{◌≡◌, ℕ, true, List, [], ◌∷◌, ◌++◌, map, Some, None, Option, refl, subst}
 use Rattle.pool.specs.declared.pool.Pool.{Pool}
+use Rattle.register.specs.Answering.{leaves_nodes}
 use Rattle.register.specs.Calls.{Answer, Call, refused}
 use Rattle.register.specs.Contents.{Names}
 use Rattle.register.specs.Declined.{declined}
-use Rattle.register.specs.Law.{Follows, Turn, shown_after}
+use Rattle.register.specs.Law.{Follows, LeavesNodes, Turn, pool_after, shown_after}
 use Rattle.register.specs.Places.{record_of}
 use Rattle.register.specs.Shown.{Shown, Shows}
 use Rattle.register.specs.Steps.{Accepted, Step, Unless}
@@ -14,6 +15,18 @@ use Rattle.register.specs.declared.table.Record.{Record}
 pub shown-append : (s : Shown) (front back : List Turn) → shown_after s (front ++ back) ≡ shown_after (shown_after s front) back
 shown-append s [] back = refl
 shown-append s (t ∷ ts) back = shown-append t.after ts back
+
+pub pool-append : (p : Pool) (front back : List Turn) → pool_after p (front ++ back) ≡ pool_after (pool_after p front) back
+pool-append p [] back = refl
+pool-append p (t ∷ ts) back = pool-append t.pool ts back
+
+pub leaves-append : (p : Pool) (front back : List Turn) → LeavesNodes p front → LeavesNodes (pool_after p front) back → LeavesNodes p (front ++ back)
+leaves-append p [] back f g = g
+leaves-append p (t ∷ ts) back f g = (f.0, leaves-append t.pool ts back f.1 g)
+
+pub left-unchanged : (p : Pool) (front back : List Turn) (t : Turn) → LeavesNodes p (front ++ t ∷ back) → leaves_nodes t.call t.answer ≡ true → t.pool ≡ pool_after p front
+left-unchanged p [] back t f = f.0
+left-unchanged p (u ∷ front) back t f = left-unchanged u.pool front back t f.1
 
 module _ {K : Type 0} (𝓝 : Names K) where
   -- some memory shows the state
@@ -36,6 +49,12 @@ module _ {K : Type 0} (𝓝 : Names K) where
   pub follows-back : (s : Shown) (front back : List Turn) → Follows 𝓝 s (front ++ back) → Follows 𝓝 (shown_after s front) back
   follows-back s [] back f = f
   follows-back s (t ∷ ts) back f = follows-back t.after ts back f.2
+
+  -- the last pool shows the last state
+  pub last-shown : (p : Pool) (s : Shown) (turns : List Turn) → Shows 𝓝 p (map record_of s.places) s.next s → Follows 𝓝 s turns
+      → Shows 𝓝 (pool_after p turns) (map record_of (shown_after s turns).places) (shown_after s turns).next (shown_after s turns)
+  last-shown p s [] shows f = shows
+  last-shown p s (t ∷ ts) shows f = last-shown t.pool t.after ts f.1 f.2
 
   -- what is true at the start and of every state that a memory shows is true at the end
   pub shown-last : (P : Shown → Type 0) → ((s : Shown) → Seen s → P s) → (s : Shown) (turns : List Turn) → P s → Follows 𝓝 s turns → P (shown_after s turns)

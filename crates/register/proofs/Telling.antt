@@ -1,4 +1,4 @@
--- What a call tells, from its conditions and its effect; and the ghost fields of a register, from its invariant.
+-- What a call tells, from its conditions and its effect.
 use Rattle.std.proofs.Common.{◌≡◌, ℕ, ◌≤◌, Bool, true, false, List, ◌∷◌, length, set, Some, None, Option, sym, refl, ap, ◌∙◌, subst, arith}
 use Rattle.pool.proofs.Pools.{holds-leaf}
 use Rattle.pool.specs.Held.{Held, Holds}
@@ -33,14 +33,6 @@ module _ {K : Type 0} (𝓝 : Names K) where
 pub holds-none : (p : Pool) (hs : List Held) → Holds p hs → Holds p (none ∷ hs)
 holds-none p hs h = holds-leaf p 0 leaf hs refl refl h
 
--- the ghost fields
-pub ghosts : (p : Pool) (ls : List (Option Record)) (xs : List Place) → Kept p ls xs
-    → record { small : length (memory_of p) ≤ 65535; within : used_of p ≤ length (memory_of p); kept : ∥ ((ys : List Place) × Kept p ls ys) ∥₁ }
-unfolding Holds
-ghosts p ls xs k =
-    let sound = k.holds.sound in
-    record { small = sound.small; within = omega (arith, sound.spare); kept = ∣ (xs, k) ∣₁ }
-
 -- an accepted call is not declined
 pub never : {B : Type 0} → false ≡ true → B
 never e = absurd (let z : ◌≡◌ {A = ℕ} 0 1 = cc in omega arith)
@@ -68,4 +60,4 @@ module _ {N K : Type 0} (𝓝 : Names K) (r : Register N) {call call' : Call} {a
 
 -- a question leaves the register as it was
 pub asked : {N K : Type 0} (𝓝 : Names K) (r : Register N) (call : Call) (a : Answer) → Answers {N = N} 𝓝 r call a → Tells {N = N} 𝓝 r call a r
-asked 𝓝 r call a told s shows = (s, shows, told s shows)
+asked 𝓝 r call a told = record { step = λ s shows. (s, shows, told s shows); unchanged = λ _. refl }

@@ -2,7 +2,7 @@
 use Rattle.std.specs.Prelude.{◌≡◌, ℕ, ◌≤◌, Bool, true, false, ◌⊎◌, List, [], ◌∷◌, Some, None, Option}
 use Rattle.tree.specs.Lookup.{last_of}
 use Rattle.register.specs.Asked.{Before}
-use Rattle.register.specs.Calls.{Answer, Call, Handle, Question, as_of, branches, counted, done, found, handed, named, next_name, refused, total, totalled}
+use Rattle.register.specs.Calls.{Answer, Call, Handle, Question, as_of, asks, branches, counted, done, found, handed, named, next_name, refused, tallies, total, totalled}
 use Rattle.register.specs.Contents.{Names}
 use Rattle.register.specs.History.{Entry, History, IsAsOf, IsNext, IsTotal, stands}
 
@@ -15,6 +15,13 @@ is_answer (counted tally) = true
 is_answer (found reading) = true
 is_answer (totalled count sum) = true
 is_answer (named name) = true
+
+-- a refusal of any call, and a question
+abbrev pub leaves_nodes : Call → Answer → Bool
+leaves_nodes call (refused why) = true
+leaves_nodes tallies answer = true
+leaves_nodes (asks handle recorded question) answer = true
+leaves_nodes call answer = false
 
 module _ {K : Type 0} (𝓝 : Names K) (known : List Entry) where
   abbrev pub AsOfAnswer : List ℕ → ℕ → Answer → Type 0

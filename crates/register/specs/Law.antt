@@ -3,17 +3,19 @@ use Rattle.std.specs.Prelude.{◌≡◌, ℕ, ◌+◌, ◌*◌, ◌≤◌, true,
 use Rattle.kinds.specs.Packed.{name_of}
 use Rattle.pool.specs.Held.{node_of}
 use Rattle.pool.specs.Reached.{Accounted}
+use Rattle.pool.specs.Sound.{memory_of}
+use Rattle.pool.specs.declared.node.Node.{Node}
 use Rattle.pool.specs.declared.pool.Pool.{Pool}
 use Rattle.tree.specs.Shape.{height}
 use Rattle.std.specs.List.{AllByRecursion}
-use Rattle.register.specs.Answering.{Answers, Branched, SettledAt, is_answer}
+use Rattle.register.specs.Answering.{Answers, Branched, SettledAt, is_answer, leaves_nodes}
 use Rattle.register.specs.Calls.{Answer, Call, Handle, Question, abandons, asks, begins, branches, commits, counted, done, enters, fetches, found, handed, named, opens, refused, retires, stows, tallies, totalled}
 use Rattle.register.specs.Contents.{Names, card_tree}
 use Rattle.register.specs.Declined.{declined}
 use Rattle.register.specs.Histories.{told_by}
 use Rattle.register.specs.History.{History, known_at}
 use Rattle.register.specs.Places.{is_resting, owners_of, record_of, sheet_at, stages_at}
-use Rattle.register.specs.Shown.{Shown, Shows, at}
+use Rattle.register.specs.Shown.{Shown, Shows, at, newly_made}
 use Rattle.register.specs.Steps.{Step}
 use Rattle.register.specs.declared.refusal.Refusal.{Refusal}
 
@@ -31,6 +33,11 @@ call_with_answer t = (t.call, t.answer)
 abbrev pub shown_after : Shown → List Turn → Shown
 shown_after s [] = s
 shown_after s (t ∷ ts) = shown_after t.after ts
+
+-- the pool after these turns, from the one that was made
+abbrev pub pool_after : Pool → List Turn → Pool
+pool_after made [] = made
+pool_after made (t ∷ ts) = pool_after t.pool ts
 
 -- the history of a line after these turns
 abbrev pub history_after : List Turn → Handle → History
@@ -122,7 +129,13 @@ Follows 𝓝 s [] = Unit {0}
 Follows 𝓝 s (t ∷ ts) =
     Step 𝓝 s t.call t.answer t.after × Shows 𝓝 t.pool (map record_of t.after.places) t.after.next t.after × Follows 𝓝 t.after ts
 
-pub record Law {K : Type 0} (𝓝 : Names K) (start : Shown) (turns : List Turn) : Type 0 where
+-- refusals and questions leave the nodes as they are
+abbrev pub LeavesNodes : Pool → List Turn → Type 0
+LeavesNodes before [] = Unit {0}
+LeavesNodes before (t ∷ ts) = (leaves_nodes t.call t.answer ≡ true → t.pool ≡ before) × LeavesNodes t.pool ts
+
+-- of turns on a register that was made with this pool, and showed this at the start
+pub record Law {K : Type 0} (𝓝 : Names K) (made : Pool) (start : Shown) (turns : List Turn) : Type 0 where
   -- a node is in use exactly when a live line reaches it, its count is the number of its owners, and the free list has every other node once
   pub accounted : AllByRecursion (λ t. Accounted t.pool (map node_of (owners_of t.after.places))) turns
   -- no call adds more nodes than it may
@@ -132,6 +145,8 @@ pub record Law {K : Type 0} (𝓝 : Names K) (start : Shown) (turns : List Turn)
   pub given_back : (front back : List Turn) → turns ≡ front ++ back → ended front ≡ started front → (shown_after start front).used ≡ 0
   -- a refusal comes exactly where its condition holds and none before it in the table, and changes nothing
   pub refusals : (front back : List Turn) (t : Turn) → turns ≡ front ++ t ∷ back → Refuses (declined 𝓝 (shown_after start front) t.call) (shown_after start front) t
+  -- a refusal leaves every node as it was, and so does a question
+  pub unchanged : (front back : List Turn) (t : Turn) → turns ≡ front ++ t ∷ back → leaves_nodes t.call t.answer ≡ true → t.pool ≡ pool_after made front
   -- every answer as of a recorded instant is the model's, over the line's history
   pub answered : (front back : List Turn) (t : Turn) → turns ≡ front ++ t ∷ back → (g : Handle) (recorded : ℕ) (q : Question) → t.call ≡ asks g recorded q
       → Answers 𝓝 (known_at recorded (history_after front g)) q t.answer
@@ -141,10 +156,25 @@ pub record Law {K : Type 0} (𝓝 : Names K) (start : Shown) (turns : List Turn)
       → t'.call ≡ asks h recorded q → Branched (map call_with_answer between) g h → is_resting (at (shown_after start (front ++ t ∷ between)) h) ≡ true
       → t'.answer ≡ t.answer
 
--- a run of these calls with these answers, for which the law holds
-pub record Ran {K : Type 0} (𝓝 : Names K) (start : Shown) (calls : List Call) (answers : List Answer) : Type 0 where
+-- any turns that follow one another on a newly made register obey the law
+abbrev pub EveryRun : {K : Type 0} → Names K → Type 0
+EveryRun 𝓝 =
+    (made : Pool) (nodes first : ℕ) (turns : List Turn) → Follows 𝓝 (newly_made nodes first) turns → LeavesNodes made turns
+    → Law 𝓝 made (newly_made nodes first) turns
+
+-- what a run leaves in memory: the nodes of its last pool, each accounted for
+pub record LeftIn (made : Pool) (start : Shown) (turns : List Turn) (memory : List Node) : Type 0 where
+  pub nodes : memory_of (pool_after made turns) ≡ memory
+  pub accounted : Accounted (pool_after made turns) (map node_of (owners_of (shown_after start turns).places))
+
+-- A run of these calls with these answers on a register made in this memory, for which the law holds, and what it left there.
+pub record Ran {K : Type 0} (𝓝 : Names K) (start : Shown) (calls : List Call) (answers : List Answer) (memory : List Node) : Type 0 where
+  pub made : Pool
+  pub fresh : Shows 𝓝 made (map record_of start.places) start.next start
   pub turns : List Turn
   pub calls_are : map (λ (t : Turn). t.call) turns ≡ calls
   pub answers_are : map (λ (t : Turn). t.answer) turns ≡ answers
   pub follows : Follows 𝓝 start turns
-  pub law : Law 𝓝 start turns
+  pub leaves : LeavesNodes made turns
+  pub law : Law 𝓝 made start turns
+  pub left : LeftIn made start turns memory

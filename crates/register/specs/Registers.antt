@@ -1,6 +1,7 @@
 -- What a call on a register tells: whatever the register shows before it, the call is a step from there to what it shows after it.
-use Rattle.std.specs.Prelude.{◌≡◌, drop, Ok, Err, Result}
+use Rattle.std.specs.Prelude.{◌≡◌, drop, true, Ok, Err, Result}
 use Rattle.pool.specs.declared.pool.Pool.{Pool}
+use Rattle.register.specs.Answering.{leaves_nodes}
 use Rattle.register.specs.Calls.{Answer, Call, Handle, Line, Sitting, line_handle, sitting_handle}
 use Rattle.register.specs.Contents.{Names}
 use Rattle.register.specs.Kept.{pool_in}
@@ -23,8 +24,13 @@ module _ {N : Type 0} {K : Type 0} (𝓝 : Names K) where
   abbrev pub ShownBy : Register N → Shown → Type 0
   ShownBy r s = Shows 𝓝 (pool_of r) r.table.lines r.next s
 
-  abbrev pub Tells : Register N → Call → Answer → Register N → Type 0
-  Tells r call a r' = (s : Shown) → ShownBy r s → (s' : Shown) × ShownBy r' s' × Step 𝓝 s call a s'
+  abbrev pub StepsTo : Register N → Call → Answer → Register N → Type 0
+  StepsTo r call a r' = (s : Shown) → ShownBy r s → (s' : Shown) × ShownBy r' s' × Step 𝓝 s call a s'
+
+  -- a refusal and a question leave every node as it was
+  pub record Tells (r : Register N) (call : Call) (a : Answer) (r' : Register N) : Type 0 where
+    pub step : StepsTo r call a r'
+    pub unchanged : leaves_nodes call a ≡ true → pool_of r' ≡ pool_of r
 
   -- a question tells of what is shown, and changes nothing
   abbrev pub Answers : Register N → Call → Answer → Type 0

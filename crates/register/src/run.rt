@@ -1,18 +1,18 @@
 //! Calls as plain values, with any numbers as handles, carried out one after another.
 
-ghost use Rattle.std.specs.Prelude.{◌≡◌, min, map, length, take, drop, Some, None};
+ghost use Rattle.std.specs.Prelude.{◌≡◌, min, map, true, length, take, drop, is_err, Some, None};
 ghost use Rattle.register.specs.Calls.{as_of, asks, branch_answer, done_answer, enters, entry_answer, found_answer, line_answer, line_handle, name_answer, next_name, sitting_handle, total as totals, total_answer};
 ghost use Rattle.register.specs.Contents.{names};
 ghost use Rattle.register.specs.Law.{Ran};
 ghost use Rattle.register.specs.Plain.{action_of, answer_of, call_of, question_of};
-ghost use Rattle.register.specs.Registers.{Answers, Tells};
+ghost use Rattle.register.specs.Registers.{Answers, SameLoan, Tells};
 ghost use Rattle.register.specs.Shown.{newly_made};
 
 use crate::entries::Change;
 use crate::handle::{Handle, Line, Parts, Refused, Sitting};
 use crate::questions::Tally;
 use crate::refusal::Refusal;
-use crate::register::{MOST_NODES, Register};
+use crate::register::Register;
 use kinds::{Instant, Name, NameOrder, Reading};
 use pool::Node;
 use tree::Total;
@@ -78,14 +78,16 @@ fn numbers_of<S>(handle: Handle<S>) -> Parts
 
 /// The answer of a call that gives a line.
 fn handed(res: Result<Line, Refusal>) -> Answer
-    ensures { answer_of result ≡ line_answer res }
+    ensures answer { answer_of result ≡ line_answer res }
+    ensures declined { is_err result ≡ is_err res }
 {
     res.map(|line| Reply::Handed(numbers_of(line)))
 }
 
 /// The answer of a branching: the new line.
 fn branched(res: Result<(Line, Line), Refused<Line>>) -> Answer
-    ensures { answer_of result ≡ branch_answer res }
+    ensures answer { answer_of result ≡ branch_answer res }
+    ensures declined { is_err result ≡ is_err res }
 {
     let (old, new) = res?;
     let _ = old.into_parts();
@@ -94,14 +96,16 @@ fn branched(res: Result<(Line, Line), Refused<Line>>) -> Answer
 
 /// The answer of a call that ends with a line.
 fn spent(res: Result<(), Refused<Line>>) -> Answer
-    ensures { answer_of result ≡ done_answer res }
+    ensures answer { answer_of result ≡ done_answer res }
+    ensures declined { is_err result ≡ is_err res }
 {
     res.map(|_| Reply::Done).map_err(Refusal::from)
 }
 
 /// The answer of a call that begins a sitting or ends one.
 fn turned<S, T>(res: Result<Handle<S>, Refused<Handle<T>>>) -> Answer
-    ensures { answer_of result ≡ done_answer res }
+    ensures answer { answer_of result ≡ done_answer res }
+    ensures declined { is_err result ≡ is_err res }
 {
     let _ = res?.into_parts();
     Ok(Reply::Done)
@@ -109,7 +113,8 @@ fn turned<S, T>(res: Result<Handle<S>, Refused<Handle<T>>>) -> Answer
 
 /// The answer of an entry.
 fn entered(res: Result<(), Refusal>) -> Answer
-    ensures { answer_of result ≡ entry_answer res }
+    ensures answer { answer_of result ≡ entry_answer res }
+    ensures declined { is_err result ≡ is_err res }
 {
     res.map(|_| Reply::Done)
 }
@@ -152,7 +157,9 @@ impl Parts {
 impl<'m, N: NameOrder> Register<'m, N> {
     /// Makes an entry in the sitting of this handle.
     fn enter_at(&mut self, handle: Parts, name: &[u8], measured: u32, change: Change) -> Answer
-        ensures { Tells (names N.Key.words N.Key.key N.cmp N.NameOrder.named N.NameOrder.name) self.old (enters handle name.now measured change) (answer_of result) self.new }
+        ensures told { Tells (names N.Key.words N.Key.key N.cmp N.NameOrder.named N.NameOrder.name) self.old (enters handle name.now measured change) (answer_of result) self.new }
+        ensures lent { SameLoan self.old self.new }
+        ensures same { is_err result ≡ true → self.new ≡ self.old }
     {
         let sitting = handle.sitting();
         let result = self.enter(&sitting, name, measured, change);
@@ -202,7 +209,9 @@ impl<'m, N: NameOrder> Register<'m, N> {
 
     /// Carries out an action.
     pub fn perform(&mut self, action: Action<'_>) -> Answer
-        ensures { Tells (names N.Key.words N.Key.key N.cmp N.NameOrder.named N.NameOrder.name) self.old (action_of action.entry) (answer_of result) self.new }
+        ensures told { Tells (names N.Key.words N.Key.key N.cmp N.NameOrder.named N.NameOrder.name) self.old (action_of action.entry) (answer_of result) self.new }
+        ensures lent { SameLoan self.old self.new }
+        ensures same { is_err result ≡ true → self.new ≡ self.old }
     {
         match action {
             Action::Open => handed(self.open_line()),
@@ -244,16 +253,19 @@ fn turns(calls: &[Call<'_>], answers: &[Answer]) -> usize
     calls.len().min(answers.len())
 }
 
-/// Carries out calls on a register newly made over this memory, and writes their answers. Gives how many were carried out.
-fn run_over<N: NameOrder>(
+/// Carries out calls one after another on a register newly made over this memory, and writes their answers.
+/// As many calls are carried out as there is room for answers; their number is given. The register's nodes, the first 65,535 of the
+/// memory at most, are left as the last call left them. What lies behind them is not written.
+pub fn run_calls<N: NameOrder>(
     memory: &mut [Node],
     first_serial: u32,
     calls: &[Call<'_>],
     answers: &mut [Answer],
 ) -> usize
     ensures count { result ≡ min (length calls.now) (length answers.old) }
-    ensures ran { Ran (names N.Key.words N.Key.key N.cmp N.NameOrder.named N.NameOrder.name) (newly_made (min (length memory.old) 65535) first_serial) (map call_of (take result calls.now)) (map answer_of (take result answers.new)) }
+    ensures ran { Ran (names N.Key.words N.Key.key N.cmp N.NameOrder.named N.NameOrder.name) (newly_made (min (length memory.old) 65535) first_serial) (map call_of (take result calls.now)) (map answer_of (take result answers.new)) (take 65535 memory.new) }
     ensures rest { drop result answers.new ≡ drop result answers.old }
+    ensures beyond { drop 65535 memory.new ≡ drop 65535 memory.old }
 {
     let mut register = Register::<N>::new(memory, first_serial);
     let most = turns(calls, answers);
@@ -264,22 +276,4 @@ fn run_over<N: NameOrder>(
         };
     }
     most
-}
-
-/// Carries out calls one after another on a register newly made over this memory, and writes their answers.
-/// As many calls are carried out as there is room for answers; their number is given. What lies behind the register's nodes
-/// is not written.
-pub fn run_calls<N: NameOrder>(
-    memory: &mut [Node],
-    first_serial: u32,
-    calls: &[Call<'_>],
-    answers: &mut [Answer],
-) -> usize
-    ensures count { result ≡ min (length calls.now) (length answers.old) }
-    ensures ran { Ran (names N.Key.words N.Key.key N.cmp N.NameOrder.named N.NameOrder.name) (newly_made (min (length memory.old) 65535) first_serial) (map call_of (take result calls.now)) (map answer_of (take result answers.new)) }
-    ensures rest { drop result answers.new ≡ drop result answers.old }
-    ensures beyond { drop 65535 memory.new ≡ drop 65535 memory.old }
-{
-    let size = memory.len().min(MOST_NODES);
-    run_over::<N>(&mut memory[..size], first_serial, calls, answers)
 }

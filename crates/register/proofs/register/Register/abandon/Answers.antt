@@ -3,7 +3,7 @@ use Rattle.register.specs.Tables.{line_of, resting_record}
 use Rattle.register.proofs.Ending.{abandoned, kept-abandoned, seat, sheet-first, unabandoned}
 use Rattle.register.proofs.Keeping.{the_places}
 use Rattle.register.proofs.Memory.{by-parts, left_in, reopened, rewritten, shown-joined}
-use Rattle.register.proofs.Telling.{put-at}
+use Rattle.register.proofs.Telling.{never, put-at}
 use Rattle.pool.proofs.Pools.{holds-in}
 use Rattle.register.proofs.register.Register.abandon.Goals as goal
 use Rattle.register.specs.Registers.{pool_of}
@@ -11,7 +11,10 @@ use Rattle.register.specs.Registers.{pool_of}
 pub returns-in_default-clause-told : goal.returns-in_default-clause-told
 returns-in_default-clause-told g c =
     let self = c.args.self.now in
-    unabandoned (pool_of self) self.table.lines c.args.sitting.place c.args.sitting.serial (line_of self.table.lines c.args.sitting.place c.args.sitting.serial) refl c.in_default.ensures.0 _ self.next
+    record {
+      step = unabandoned (pool_of self) self.table.lines c.args.sitting.place c.args.sitting.serial (line_of self.table.lines c.args.sitting.place c.args.sitting.serial) refl c.in_default.ensures.0 _ self.next;
+      unchanged = λ _. refl;
+    }
 
 pub returns-in_default-clause-same : goal.returns-in_default-clause-same
 returns-in_default-clause-same g c = λ _. reopened c.args.self.now _ _ _ _
@@ -38,10 +41,13 @@ returns-clause-told g c =
     let e = c.stand_up-rested.ensures in
     let p' = left_in self c.stand_up-rested.new.nodes c.stand_up-rested.new.state e.size in
     let (xs, k) = the_places (pool_of self) self.table.lines self.kept in
-    λ s shows. shown-joined self c.stand_up-rested.new.nodes c.stand_up-rested.new.state e.size _ _ _
-    (abandoned (pool_of self) self.table.lines c.args.sitting.place c.args.sitting.serial (Some c.in-Ok.record) c.in-Ok.ensures.0 _ c.in-Ok.sheet c.in-Ok.ensures.1 p' _
-    (put-at self.table.lines _ _ _ _ _ c.put.ensures c.into_parts-place.ensures.place (c.stand_up-rested.ensures.made ∙ (λ i. resting_record ((seat (pool_of self) self.table.lines c.args.sitting.place c.args.sitting.serial (Some c.in-Ok.record) c.in-Ok.ensures.0 _ c.in-Ok.sheet c.in-Ok.ensures.1 xs k).serial-is i) c.in-Ok.record.root))) (λ t hs. by-parts (pool_of self) p' _ _ (e.owned t hs))
-    _ self.next c.stand_up-rested.ensures.fewer c.stand_up-rested.ensures.size s shows)
+    record {
+      step = λ s shows. shown-joined self c.stand_up-rested.new.nodes c.stand_up-rested.new.state e.size _ _ _
+          (abandoned (pool_of self) self.table.lines c.args.sitting.place c.args.sitting.serial (Some c.in-Ok.record) c.in-Ok.ensures.0 _ c.in-Ok.sheet c.in-Ok.ensures.1 p' _
+          (put-at self.table.lines _ _ _ _ _ c.put.ensures c.into_parts-place.ensures.place (c.stand_up-rested.ensures.made ∙ (λ i. resting_record ((seat (pool_of self) self.table.lines c.args.sitting.place c.args.sitting.serial (Some c.in-Ok.record) c.in-Ok.ensures.0 _ c.in-Ok.sheet c.in-Ok.ensures.1 xs k).serial-is i) c.in-Ok.record.root))) (λ t hs. by-parts (pool_of self) p' _ _ (e.owned t hs))
+          _ self.next c.stand_up-rested.ensures.fewer c.stand_up-rested.ensures.size s shows);
+      unchanged = never;
+    }
 
 pub returns-clause-kept : goal.returns-clause-kept
 returns-clause-kept g c = λ i. record { place = (c.from_parts.ensures.place ∙ c.into_parts-place.ensures.place) i; serial = (c.from_parts.ensures.serial ∙ c.into_parts-place.ensures.serial) i }

@@ -4,7 +4,7 @@ use Rattle.register.proofs.Changing.{length-places}
 use Rattle.register.proofs.Keeping.{the_places}
 use Rattle.register.proofs.Owning.{length-owners}
 use Rattle.register.proofs.Memory.{by-parts, left_in, reopened, rewritten, shown-joined}
-use Rattle.register.proofs.Telling.{put-at}
+use Rattle.register.proofs.Telling.{never, put-at}
 use Rattle.register.specs.Places.{owners_of}
 use Rattle.register.proofs.Readable.{readable}
 use Rattle.register.specs.Tables.{line_of}
@@ -15,7 +15,10 @@ use Rattle.pool.proofs.Pools.{holds-in, sound-memory}
 pub returns-in_default-clause-told : goal.returns-in_default-clause-told
 returns-in_default-clause-told g c =
     let self = c.args.self.now in
-    unbegun (pool_of self) self.table.lines c.args.line.place c.args.line.serial (line_of self.table.lines c.args.line.place c.args.line.serial) refl c.args.recorded _ self.next c.in_default.ensures.0
+    record {
+      step = unbegun (pool_of self) self.table.lines c.args.line.place c.args.line.serial (line_of self.table.lines c.args.line.place c.args.line.serial) refl c.args.recorded _ self.next c.in_default.ensures.0;
+      unchanged = λ _. refl;
+    }
 
 pub returns-in_default-clause-same : goal.returns-in_default-clause-same
 returns-in_default-clause-same g c = λ _. reopened c.args.self.now _ _ _ _
@@ -30,7 +33,10 @@ sheet_for-requires g c =
 pub returns-in-Err-clause-told : goal.returns-in-Err-clause-told
 returns-in-Err-clause-told g c =
     let self = c.args.self.now in
-    unlater (pool_of self) self.table.lines c.args.line.place c.args.line.serial (Some c.in-Ok.record) c.in-Ok.ensures.0 c.args.recorded c.in-Ok.ensures.1 _ self.next _ c.in-Err.ensures
+    record {
+      step = unlater (pool_of self) self.table.lines c.args.line.place c.args.line.serial (Some c.in-Ok.record) c.in-Ok.ensures.0 c.args.recorded c.in-Ok.ensures.1 _ self.next _ c.in-Err.ensures;
+      unchanged = λ _. refl;
+    }
 
 pub returns-in-Err-clause-same : goal.returns-in-Err-clause-same
 returns-in-Err-clause-same g c = λ _. reopened c.args.self.now _ _ _ _
@@ -60,9 +66,12 @@ returns-clause-told g c =
     let self = c.args.self.now in
     let e = c.sit_down-seated.ensures in
     let p' = left_in self c.sit_down-seated.new.nodes c.sit_down-seated.new.state e.size in
-    λ s shows. shown-joined self c.sit_down-seated.new.nodes c.sit_down-seated.new.state e.size _ _ _
-    (began (pool_of self) self.table.lines c.args.line.place c.args.line.serial (Some c.in-Ok.record) c.in-Ok.ensures.0 c.args.recorded c.in-Ok.ensures.1 c.in-Ok-sheet_for.sheet c.in-Ok-sheet_for.ensures
-    p' _ (put-at self.table.lines _ _ _ _ _ c.put.ensures c.into_parts-place.ensures.place c.sit_down-seated.ensures.made) (λ t hs h carries. by-parts (pool_of self) p' _ _ (λ held. e.owned t hs held carries) h) _ self.next c.sit_down-seated.ensures.size c.sit_down-seated.ensures.used s shows)
+    record {
+      step = λ s shows. shown-joined self c.sit_down-seated.new.nodes c.sit_down-seated.new.state e.size _ _ _
+          (began (pool_of self) self.table.lines c.args.line.place c.args.line.serial (Some c.in-Ok.record) c.in-Ok.ensures.0 c.args.recorded c.in-Ok.ensures.1 c.in-Ok-sheet_for.sheet c.in-Ok-sheet_for.ensures
+          p' _ (put-at self.table.lines _ _ _ _ _ c.put.ensures c.into_parts-place.ensures.place c.sit_down-seated.ensures.made) (λ t hs h carries. by-parts (pool_of self) p' _ _ (λ held. e.owned t hs held carries) h) _ self.next c.sit_down-seated.ensures.size c.sit_down-seated.ensures.used s shows);
+      unchanged = never;
+    }
 
 pub returns-clause-kept : goal.returns-clause-kept
 returns-clause-kept g c = λ i. record { place = (c.from_parts.ensures.place ∙ c.into_parts-place.ensures.place) i; serial = (c.from_parts.ensures.serial ∙ c.into_parts-place.ensures.serial) i }

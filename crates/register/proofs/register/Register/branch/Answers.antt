@@ -6,7 +6,7 @@ use Rattle.register.proofs.Keeping.{the_places}
 use Rattle.register.proofs.Memory.{by-parts, left_in, reopened, rewritten, shown-joined}
 use Rattle.register.proofs.Opening.{branched, crowded, kept-branched, retainable, unbranched}
 use Rattle.register.proofs.Owning.{length-owners}
-use Rattle.register.proofs.Telling.{put-at}
+use Rattle.register.proofs.Telling.{never, put-at}
 use Rattle.register.specs.Places.{owners_of}
 use Rattle.register.specs.Registers.{pool_of}
 use Rattle.register.specs.Tables.{line_of}
@@ -15,7 +15,10 @@ use Rattle.register.proofs.register.Register.branch.Goals as goal
 pub returns-in_default-clause-told : goal.returns-in_default-clause-told
 returns-in_default-clause-told g c =
     let self = c.args.self.now in
-    unbranched (pool_of self) self.table.lines c.args.line.place c.args.line.serial (line_of self.table.lines c.args.line.place c.args.line.serial) refl self.next _ c.in_default.ensures.0
+    record {
+      step = unbranched (pool_of self) self.table.lines c.args.line.place c.args.line.serial (line_of self.table.lines c.args.line.place c.args.line.serial) refl self.next _ c.in_default.ensures.0;
+      unchanged = λ _. refl;
+    }
 
 pub returns-in_default-clause-same : goal.returns-in_default-clause-same
 returns-in_default-clause-same g c = λ _. reopened c.args.self.now _ _ _ _
@@ -23,7 +26,10 @@ returns-in_default-clause-same g c = λ _. reopened c.args.self.now _ _ _ _
 pub returns-in-Err-clause-told : goal.returns-in-Err-clause-told
 returns-in-Err-clause-told g c =
     let self = c.args.self.now in
-    crowded (pool_of self) self.table.lines c.args.line.place c.args.line.serial (Some c.in-Ok.record) c.in-Ok.ensures.0 self.next c.in-Ok.ensures.1 _ _ c.in-Err.ensures
+    record {
+      step = crowded (pool_of self) self.table.lines c.args.line.place c.args.line.serial (Some c.in-Ok.record) c.in-Ok.ensures.0 self.next c.in-Ok.ensures.1 _ _ c.in-Err.ensures;
+      unchanged = λ _. refl;
+    }
 
 pub returns-in-Err-clause-same : goal.returns-in-Err-clause-same
 returns-in-Err-clause-same g c = λ _. reopened c.args.self.now _ _ _ _
@@ -54,8 +60,11 @@ returns-clause-told g c =
     let self = c.args.self.now in
     let e = c.branch_off-new.ensures in
     let p' = left_in self c.branch_off-new.new.nodes c.branch_off-new.new.state e.size in
-    λ s shows. shown-joined self c.branch_off-new.new.nodes c.branch_off-new.new.state e.size _ _ _
-    (branched (pool_of self) self.table.lines c.args.line.place c.args.line.serial (Some c.in-Ok.record) c.in-Ok.ensures.0 self.next c.in-Ok.ensures.1
-    c.in-Ok-vacancy.place c.in-Ok-vacancy.ensures p' _ (put-at self.table.lines _ _ _ _ _ c.put.ensures refl e.made)
-    (λ t hs h carries. by-parts (pool_of self) p' _ _ (λ held. e.owned t hs held carries) h) _ _
-    (λ i. handed (record { place = c.from_parts.ensures.place i; serial = c.from_parts.ensures.serial i })) e.size e.used s shows)
+    record {
+      step = λ s shows. shown-joined self c.branch_off-new.new.nodes c.branch_off-new.new.state e.size _ _ _
+          (branched (pool_of self) self.table.lines c.args.line.place c.args.line.serial (Some c.in-Ok.record) c.in-Ok.ensures.0 self.next c.in-Ok.ensures.1
+          c.in-Ok-vacancy.place c.in-Ok-vacancy.ensures p' _ (put-at self.table.lines _ _ _ _ _ c.put.ensures refl e.made)
+          (λ t hs h carries. by-parts (pool_of self) p' _ _ (λ held. e.owned t hs held carries) h) _ _
+          (λ i. handed (record { place = c.from_parts.ensures.place i; serial = c.from_parts.ensures.serial i })) e.size e.used s shows);
+      unchanged = never;
+    }

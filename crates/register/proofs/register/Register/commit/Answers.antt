@@ -3,14 +3,17 @@ use Rattle.register.specs.Tables.{line_of, resting_record}
 use Rattle.register.proofs.Ending.{committed, insertable, kept-committed, line-carried, too_few_lem, too-high, uncommitted}
 use Rattle.register.proofs.Keeping.{the_places}
 use Rattle.register.proofs.Memory.{by-parts, insertable-again, left_in, reopened, rewritten, shown-joined}
-use Rattle.register.proofs.Telling.{put-at}
+use Rattle.register.proofs.Telling.{never, put-at}
 use Rattle.register.proofs.register.Register.commit.Goals as goal
 use Rattle.register.specs.Registers.{pool_of}
 
 pub returns-in_default-clause-told : goal.returns-in_default-clause-told
 returns-in_default-clause-told g c =
     let self = c.args.self.now in
-    uncommitted (pool_of self) self.table.lines c.args.sitting.place c.args.sitting.serial (line_of self.table.lines c.args.sitting.place c.args.sitting.serial) refl c.in_default.ensures.0 _ self.next
+    record {
+      step = uncommitted (pool_of self) self.table.lines c.args.sitting.place c.args.sitting.serial (line_of self.table.lines c.args.sitting.place c.args.sitting.serial) refl c.in_default.ensures.0 _ self.next;
+      unchanged = λ _. refl;
+    }
 
 pub returns-in_default-clause-same : goal.returns-in_default-clause-same
 returns-in_default-clause-same g c = λ _. reopened c.args.self.now _ _ _ _
@@ -24,7 +27,10 @@ height_of-requires g c =
 pub returns-then-height_of-gt-HIGHEST-clause-told : goal.returns-then-height_of-gt-HIGHEST-clause-told
 returns-then-height_of-gt-HIGHEST-clause-told g c =
     let self = c.args.self.now in
-    too-high (pool_of self) self.table.lines c.args.sitting.place c.args.sitting.serial (Some c.in-Ok.record) c.in-Ok.ensures.0 c.in-Ok.recorded c.in-Ok.sheet c.in-Ok.ensures.1 _ self.next c.height_of.result c.height_of.ensures c.if-height_of-gt-HIGHEST.true
+    record {
+      step = too-high (pool_of self) self.table.lines c.args.sitting.place c.args.sitting.serial (Some c.in-Ok.record) c.in-Ok.ensures.0 c.in-Ok.recorded c.in-Ok.sheet c.in-Ok.ensures.1 _ self.next c.height_of.result c.height_of.ensures c.if-height_of-gt-HIGHEST.true;
+      unchanged = λ _. refl;
+    }
 
 pub returns-then-height_of-gt-HIGHEST-clause-same : goal.returns-then-height_of-gt-HIGHEST-clause-same
 returns-then-height_of-gt-HIGHEST-clause-same g c = λ _. reopened c.args.self.now _ _ _ _
@@ -32,7 +38,10 @@ returns-then-height_of-gt-HIGHEST-clause-same g c = λ _. reopened c.args.self.n
 pub returns-then-is_short-clause-told : goal.returns-then-is_short-clause-told
 returns-then-is_short-clause-told g c =
     let self = c.args.self.now in
-    too_few_lem (pool_of self) self.table.lines c.args.sitting.place c.args.sitting.serial (Some c.in-Ok.record) c.in-Ok.ensures.0 c.in-Ok.recorded c.in-Ok.sheet c.in-Ok.ensures.1 _ self.next c.height_of.result c.height_of.ensures c.if-height_of-gt-HIGHEST.false c.available.result c.available.ensures (ltb-true _ _ (sym c.is_short.ensures ∙ c.if-is_short.true))
+    record {
+      step = too_few_lem (pool_of self) self.table.lines c.args.sitting.place c.args.sitting.serial (Some c.in-Ok.record) c.in-Ok.ensures.0 c.in-Ok.recorded c.in-Ok.sheet c.in-Ok.ensures.1 _ self.next c.height_of.result c.height_of.ensures c.if-height_of-gt-HIGHEST.false c.available.result c.available.ensures (ltb-true _ _ (sym c.is_short.ensures ∙ c.if-is_short.true));
+      unchanged = λ _. refl;
+    }
 
 pub returns-then-is_short-clause-same : goal.returns-then-is_short-clause-same
 returns-then-is_short-clause-same g c = λ _. reopened c.args.self.now _ _ _ _
@@ -61,9 +70,12 @@ returns-clause-told g c =
     let self = c.args.self.now in
     let e = c.add_stage-root.ensures in
     let p' = left_in self c.add_stage-root.new.nodes c.add_stage-root.new.state e.size in
-    λ s shows. shown-joined self c.add_stage-root.new.nodes c.add_stage-root.new.state e.size _ _ _
-    (committed (pool_of self) self.table.lines c.args.sitting.place c.args.sitting.serial (Some c.in-Ok.record) c.in-Ok.ensures.0 c.in-Ok.recorded c.in-Ok.sheet c.in-Ok.ensures.1 c.height_of.result c.height_of.ensures c.if-height_of-gt-HIGHEST.false c.available.result c.available.ensures (ltb-false _ _ (sym c.is_short.ensures ∙ c.if-is_short.false))
-    c.from.result c.from.ensures c.add_stage-root.result p' _ (put-at self.table.lines _ _ _ _ _ c.put.ensures c.into_parts-place.ensures.place (c.resting.ensures ∙ (λ i. resting_record (c.into_parts-place.ensures.serial i) c.add_stage-root.result))) (λ t nested hs. by-parts (pool_of self) p' _ _ (e.owned t nested hs)) _ self.next c.add_stage-root.ensures.appended c.add_stage-root.ensures.size s shows)
+    record {
+      step = λ s shows. shown-joined self c.add_stage-root.new.nodes c.add_stage-root.new.state e.size _ _ _
+          (committed (pool_of self) self.table.lines c.args.sitting.place c.args.sitting.serial (Some c.in-Ok.record) c.in-Ok.ensures.0 c.in-Ok.recorded c.in-Ok.sheet c.in-Ok.ensures.1 c.height_of.result c.height_of.ensures c.if-height_of-gt-HIGHEST.false c.available.result c.available.ensures (ltb-false _ _ (sym c.is_short.ensures ∙ c.if-is_short.false))
+          c.from.result c.from.ensures c.add_stage-root.result p' _ (put-at self.table.lines _ _ _ _ _ c.put.ensures c.into_parts-place.ensures.place (c.resting.ensures ∙ (λ i. resting_record (c.into_parts-place.ensures.serial i) c.add_stage-root.result))) (λ t nested hs. by-parts (pool_of self) p' _ _ (e.owned t nested hs)) _ self.next c.add_stage-root.ensures.appended c.add_stage-root.ensures.size s shows);
+      unchanged = never;
+    }
 
 pub returns-clause-kept : goal.returns-clause-kept
 returns-clause-kept g c = λ i. record { place = (c.from_parts.ensures.place ∙ c.into_parts-place.ensures.place) i; serial = (c.from_parts.ensures.serial ∙ c.into_parts-place.ensures.serial) i }

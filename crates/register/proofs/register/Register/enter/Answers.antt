@@ -4,10 +4,10 @@ use Rattle.register.proofs.Entering.{declines, enterable, kept-entered, made, mi
 use Rattle.register.proofs.Keeping.{the_places}
 use Rattle.register.proofs.Passing.{passed}
 use Rattle.register.proofs.Memory.{by-parts, enterable-again, left_in, reopened, rewritten, shown-joined}
-use Rattle.register.proofs.Telling.{put-at}
+use Rattle.register.proofs.Telling.{never, put-at}
 use Rattle.register.specs.Calls.{enters, entry_answer, refused, sitting_handle}
 use Rattle.register.specs.Contents.{names}
-use Rattle.register.specs.Registers.{Tells, pool_of}
+use Rattle.register.specs.Registers.{StepsTo, pool_of}
 use Rattle.register.specs.Tables.{line_of}
 use Rattle.register.specs.declared.refusal.Refusal.{Refusal}
 use Rattle.register.proofs.register.Register.enter.Goals as goal
@@ -15,9 +15,12 @@ use Rattle.register.proofs.register.Register.enter.Goals as goal
 pub returns-in_err-record-clause-told : goal.returns-in_err-record-clause-told
 returns-in_err-record-clause-told g c =
     let self = c.args.self.now in
-    passed (λ r. Tells (names g.N.Key.words g.N.Key.key g.N.Ord.cmp g.N.NameOrder.named g.N.NameOrder.name) self (enters (sitting_handle c.args.sitting.now) c.args.name.now c.args.measured c.args.change) (entry_answer r) self) _ _ c.from_residual.ensures.1
-    (subst (λ (why : Refusal). Tells (names g.N.Key.words g.N.Key.key g.N.Ord.cmp g.N.NameOrder.named g.N.NameOrder.name) self (enters (sitting_handle c.args.sitting.now) c.args.name.now c.args.measured c.args.change) (refused why) self) (sym c.in_err-record.ensures.1)
-    (unseated (pool_of self) self.table.lines c.args.sitting.now.place c.args.sitting.now.serial (line_of self.table.lines c.args.sitting.now.place c.args.sitting.now.serial) refl self.next c.args.name.now c.args.measured c.args.change _ c.in_err-record.ensures.0))
+    record {
+      step = passed (λ r. StepsTo (names g.N.Key.words g.N.Key.key g.N.Ord.cmp g.N.NameOrder.named g.N.NameOrder.name) self (enters (sitting_handle c.args.sitting.now) c.args.name.now c.args.measured c.args.change) (entry_answer r) self) _ _ c.from_residual.ensures.1
+          (subst (λ (why : Refusal). StepsTo (names g.N.Key.words g.N.Key.key g.N.Ord.cmp g.N.NameOrder.named g.N.NameOrder.name) self (enters (sitting_handle c.args.sitting.now) c.args.name.now c.args.measured c.args.change) (refused why) self) (sym c.in_err-record.ensures.1)
+          (unseated (pool_of self) self.table.lines c.args.sitting.now.place c.args.sitting.now.serial (line_of self.table.lines c.args.sitting.now.place c.args.sitting.now.serial) refl self.next c.args.name.now c.args.measured c.args.change _ c.in_err-record.ensures.0));
+      unchanged = λ _. refl;
+    }
 
 pub returns-in_err-record-clause-same : goal.returns-in_err-record-clause-same
 returns-in_err-record-clause-same g c = λ _. reopened c.args.self.now _ _ _ _
@@ -25,8 +28,11 @@ returns-in_err-record-clause-same g c = λ _. reopened c.args.self.now _ _ _ _
 pub returns-in_err-name-clause-told : goal.returns-in_err-name-clause-told
 returns-in_err-name-clause-told g c =
     let self = c.args.self.now in
-    passed (λ r. Tells (names g.N.Key.words g.N.Key.key g.N.Ord.cmp g.N.NameOrder.named g.N.NameOrder.name) self (enters (sitting_handle c.args.sitting.now) c.args.name.now c.args.measured c.args.change) (entry_answer r) self) _ _ c.from_residual-in_err-name.ensures.1
-    (misnamed (pool_of self) self.table.lines c.args.sitting.now.place c.args.sitting.now.serial (Some c.in_ok-record.record) c.in_ok-record.ensures.0 self.next c.args.name.now c.args.measured c.args.change c.in_ok-record.recorded c.in_ok-record.sheet c.in_ok-record.ensures.1 _ c.in_err-name.ensures)
+    record {
+      step = passed (λ r. StepsTo (names g.N.Key.words g.N.Key.key g.N.Ord.cmp g.N.NameOrder.named g.N.NameOrder.name) self (enters (sitting_handle c.args.sitting.now) c.args.name.now c.args.measured c.args.change) (entry_answer r) self) _ _ c.from_residual-in_err-name.ensures.1
+          (misnamed (pool_of self) self.table.lines c.args.sitting.now.place c.args.sitting.now.serial (Some c.in_ok-record.record) c.in_ok-record.ensures.0 self.next c.args.name.now c.args.measured c.args.change c.in_ok-record.recorded c.in_ok-record.sheet c.in_ok-record.ensures.1 _ c.in_err-name.ensures);
+      unchanged = λ _. refl;
+    }
 
 pub returns-in_err-name-clause-same : goal.returns-in_err-name-clause-same
 returns-in_err-name-clause-same g c = λ _. reopened c.args.self.now _ _ _ _
@@ -34,8 +40,11 @@ returns-in_err-name-clause-same g c = λ _. reopened c.args.self.now _ _ _ _
 pub returns-in_err-reading-clause-told : goal.returns-in_err-reading-clause-told
 returns-in_err-reading-clause-told g c =
     let self = c.args.self.now in
-    passed (λ r. Tells (names g.N.Key.words g.N.Key.key g.N.Ord.cmp g.N.NameOrder.named g.N.NameOrder.name) self (enters (sitting_handle c.args.sitting.now) c.args.name.now c.args.measured c.args.change) (entry_answer r) self) _ _ c.from_residual-in_err-reading.ensures.1
-    (unreadable (pool_of self) self.table.lines c.args.sitting.now.place c.args.sitting.now.serial (Some c.in_ok-record.record) c.in_ok-record.ensures.0 self.next c.args.name.now c.args.measured c.args.change c.in_ok-record.recorded c.in_ok-record.sheet c.in_ok-record.ensures.1 c.in_ok-name.ensures.0 _ _ c.in_err-reading.ensures)
+    record {
+      step = passed (λ r. StepsTo (names g.N.Key.words g.N.Key.key g.N.Ord.cmp g.N.NameOrder.named g.N.NameOrder.name) self (enters (sitting_handle c.args.sitting.now) c.args.name.now c.args.measured c.args.change) (entry_answer r) self) _ _ c.from_residual-in_err-reading.ensures.1
+          (unreadable (pool_of self) self.table.lines c.args.sitting.now.place c.args.sitting.now.serial (Some c.in_ok-record.record) c.in_ok-record.ensures.0 self.next c.args.name.now c.args.measured c.args.change c.in_ok-record.recorded c.in_ok-record.sheet c.in_ok-record.ensures.1 c.in_ok-name.ensures.0 _ _ c.in_err-reading.ensures);
+      unchanged = λ _. refl;
+    }
 
 pub returns-in_err-reading-clause-same : goal.returns-in_err-reading-clause-same
 returns-in_err-reading-clause-same g c = λ _. reopened c.args.self.now _ _ _ _
@@ -43,7 +52,10 @@ returns-in_err-reading-clause-same g c = λ _. reopened c.args.self.now _ _ _ _
 pub returns-then-is_late-clause-told : goal.returns-then-is_late-clause-told
 returns-then-is_late-clause-told g c =
     let self = c.args.self.now in
-    too-late (pool_of self) self.table.lines c.args.sitting.now.place c.args.sitting.now.serial (Some c.in_ok-record.record) c.in_ok-record.ensures.0 self.next c.args.name.now c.args.measured c.args.change c.in_ok-record.recorded c.in_ok-record.sheet c.in_ok-record.ensures.1 c.in_ok-name.ensures.0 c.in_ok-reading.ensures.0 _ (ltb-true _ _ (sym c.is_late.ensures ∙ c.if-is_late.true))
+    record {
+      step = too-late (pool_of self) self.table.lines c.args.sitting.now.place c.args.sitting.now.serial (Some c.in_ok-record.record) c.in_ok-record.ensures.0 self.next c.args.name.now c.args.measured c.args.change c.in_ok-record.recorded c.in_ok-record.sheet c.in_ok-record.ensures.1 c.in_ok-name.ensures.0 c.in_ok-reading.ensures.0 _ (ltb-true _ _ (sym c.is_late.ensures ∙ c.if-is_late.true));
+      unchanged = λ _. refl;
+    }
 
 pub returns-then-is_late-clause-same : goal.returns-then-is_late-clause-same
 returns-then-is_late-clause-same g c = λ _. reopened c.args.self.now _ _ _ _
@@ -57,8 +69,11 @@ card_to_change-requires g c =
 pub returns-in_err-card-clause-told : goal.returns-in_err-card-clause-told
 returns-in_err-card-clause-told g c =
     let self = c.args.self.now in
-    passed (λ r. Tells (names g.N.Key.words g.N.Key.key g.N.Ord.cmp g.N.NameOrder.named g.N.NameOrder.name) self (enters (sitting_handle c.args.sitting.now) c.args.name.now c.args.measured c.args.change) (entry_answer r) self) _ _ c.from_residual-in_err-card.ensures.1
-    (declines (pool_of self) self.table.lines c.args.sitting.now.place c.args.sitting.now.serial (Some c.in_ok-record.record) c.in_ok-record.ensures.0 self.next c.args.name.now c.args.measured c.args.change c.in_ok-record.recorded c.in_ok-record.sheet c.in_ok-record.ensures.1 c.in_ok-name.ensures.0 c.in_ok-reading.ensures.0 (kind_of g.met.N.Key g.met.N.Ord.total) g.N.NameOrder.named g.N.NameOrder.name (ltb-false _ _ (sym c.is_late.ensures ∙ c.if-is_late.false)) c.from-measured.result c.from-measured.ensures c.from_name-name.result (c.from_name-name.ensures ∙ ap g.N.NameOrder.named c.in_ok-name.ensures.1) _ c.in_err-card.ensures.declined)
+    record {
+      step = passed (λ r. StepsTo (names g.N.Key.words g.N.Key.key g.N.Ord.cmp g.N.NameOrder.named g.N.NameOrder.name) self (enters (sitting_handle c.args.sitting.now) c.args.name.now c.args.measured c.args.change) (entry_answer r) self) _ _ c.from_residual-in_err-card.ensures.1
+          (declines (pool_of self) self.table.lines c.args.sitting.now.place c.args.sitting.now.serial (Some c.in_ok-record.record) c.in_ok-record.ensures.0 self.next c.args.name.now c.args.measured c.args.change c.in_ok-record.recorded c.in_ok-record.sheet c.in_ok-record.ensures.1 c.in_ok-name.ensures.0 c.in_ok-reading.ensures.0 (kind_of g.met.N.Key g.met.N.Ord.total) g.N.NameOrder.named g.N.NameOrder.name (ltb-false _ _ (sym c.is_late.ensures ∙ c.if-is_late.false)) c.from-measured.result c.from-measured.ensures c.from_name-name.result (c.from_name-name.ensures ∙ ap g.N.NameOrder.named c.in_ok-name.ensures.1) _ c.in_err-card.ensures.declined);
+      unchanged = λ _. refl;
+    }
 
 pub returns-in_err-card-clause-same : goal.returns-in_err-card-clause-same
 returns-in_err-card-clause-same g c = λ _. reopened c.args.self.now _ _ _ _
@@ -86,5 +101,8 @@ returns-clause-told g c =
     let self = c.args.self.now in
     let e = c.change_sheet-sheet.ensures in
     let p' = left_in self c.change_sheet-sheet.new.nodes c.change_sheet-sheet.new.state e.size in
-    λ s shows. shown-joined self c.change_sheet-sheet.new.nodes c.change_sheet-sheet.new.state e.size _ _ _
-    (made (pool_of self) self.table.lines c.args.sitting.now.place c.args.sitting.now.serial (Some c.in_ok-record.record) c.in_ok-record.ensures.0 self.next c.args.name.now c.args.measured c.args.change c.in_ok-record.recorded c.in_ok-record.sheet c.in_ok-record.ensures.1 c.in_ok-name.ensures.0 c.in_ok-reading.ensures.0 (kind_of g.met.N.Key g.met.N.Ord.total) g.N.NameOrder.named g.N.NameOrder.name (ltb-false _ _ (sym c.is_late.ensures ∙ c.if-is_late.false)) c.from-measured.result c.from-measured.ensures c.from_name-name.result (c.from_name-name.ensures ∙ ap g.N.NameOrder.named c.in_ok-name.ensures.1) c.in_ok-card.ensures.declined c.change_sheet-sheet.result p' _ (put-at self.table.lines _ _ _ _ _ c.put.ensures c.place.ensures c.seated.ensures) (λ t hs. by-parts (pool_of self) p' _ _ (e.owned c.args.change t hs c.in_ok-reading.ensures.1)) c.change_sheet-sheet.ensures.used c.change_sheet-sheet.ensures.size s shows)
+    record {
+      step = λ s shows. shown-joined self c.change_sheet-sheet.new.nodes c.change_sheet-sheet.new.state e.size _ _ _
+          (made (pool_of self) self.table.lines c.args.sitting.now.place c.args.sitting.now.serial (Some c.in_ok-record.record) c.in_ok-record.ensures.0 self.next c.args.name.now c.args.measured c.args.change c.in_ok-record.recorded c.in_ok-record.sheet c.in_ok-record.ensures.1 c.in_ok-name.ensures.0 c.in_ok-reading.ensures.0 (kind_of g.met.N.Key g.met.N.Ord.total) g.N.NameOrder.named g.N.NameOrder.name (ltb-false _ _ (sym c.is_late.ensures ∙ c.if-is_late.false)) c.from-measured.result c.from-measured.ensures c.from_name-name.result (c.from_name-name.ensures ∙ ap g.N.NameOrder.named c.in_ok-name.ensures.1) c.in_ok-card.ensures.declined c.change_sheet-sheet.result p' _ (put-at self.table.lines _ _ _ _ _ c.put.ensures c.place.ensures c.seated.ensures) (λ t hs. by-parts (pool_of self) p' _ _ (e.owned c.args.change t hs c.in_ok-reading.ensures.1)) c.change_sheet-sheet.ensures.used c.change_sheet-sheet.ensures.size s shows);
+      unchanged = never;
+    }

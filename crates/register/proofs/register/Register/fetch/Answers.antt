@@ -6,7 +6,7 @@ use Rattle.register.proofs.Passing.{passed}
 use Rattle.register.proofs.Keeping.{the_places}
 use Rattle.register.proofs.Shelving.{empty-shelf, fetched, kept-fetched}
 use Rattle.register.proofs.Memory.{unwritten}
-use Rattle.register.proofs.Telling.{put-at}
+use Rattle.register.proofs.Telling.{never, put-at}
 use Rattle.register.specs.declared.refusal.Refusal.{Refusal}
 use Rattle.register.specs.declared.refusal.Refusal.TheVariants.{ShelfEmpty}
 use Rattle.register.proofs.register.Register.fetch.Goals as goal
@@ -17,7 +17,7 @@ returns-in_err-place-clause-told g c =
     let met : c.in_err-place.field-0.0 ≡ ShelfEmpty = search rules in
     passed (λ r. Tells (names g.N.Key.words g.N.Key.key g.N.Ord.cmp g.N.NameOrder.named g.N.NameOrder.name) self (fetches c.args.letter) (line_answer r) self) _ _ c.from_residual.ensures.1
     (subst (λ (why : Refusal). Tells (names g.N.Key.words g.N.Key.key g.N.Ord.cmp g.N.NameOrder.named g.N.NameOrder.name) self (fetches c.args.letter) (refused why) self) (sym met)
-    (empty-shelf (pool_of self) self.table.lines c.args.letter _ self.next (sym c.is_ascii_uppercase.ensures.value ∙ c.if-not-is_ascii_uppercase.false) (search rules)))
+    (record { step = empty-shelf (pool_of self) self.table.lines c.args.letter _ self.next (sym c.is_ascii_uppercase.ensures.value ∙ c.if-not-is_ascii_uppercase.false) (search rules); unchanged = λ _. refl }))
 
 pub invariant_of-self : goal.invariant_of-self
 invariant_of-self g c =
@@ -30,6 +30,9 @@ invariant_of-self g c =
 pub returns-clause-told : goal.returns-clause-told
 returns-clause-told g c =
     let self = c.args.self.now in
-    fetched (pool_of self) self.table.lines c.args.letter c.in_ok-place.place (search rules) c.in_ok-place.record (search rules) _
-    (put-at self.table.lines _ _ _ _ _ c.put.ensures refl c.rested.ensures) _ self.next (sym c.is_ascii_uppercase.ensures.value ∙ c.if-not-is_ascii_uppercase.false) _
-    (λ i. handed (record { place = c.from_parts.ensures.place i; serial = c.from_parts.ensures.serial i }))
+    record {
+      step = fetched (pool_of self) self.table.lines c.args.letter c.in_ok-place.place (search rules) c.in_ok-place.record (search rules) _
+          (put-at self.table.lines _ _ _ _ _ c.put.ensures refl c.rested.ensures) _ self.next (sym c.is_ascii_uppercase.ensures.value ∙ c.if-not-is_ascii_uppercase.false) _
+          (λ i. handed (record { place = c.from_parts.ensures.place i; serial = c.from_parts.ensures.serial i }));
+      unchanged = never;
+    }

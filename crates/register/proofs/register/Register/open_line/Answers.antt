@@ -6,13 +6,13 @@ use Rattle.register.proofs.Passing.{passed}
 use Rattle.register.proofs.Keeping.{the_places}
 use Rattle.register.proofs.Memory.{unwritten}
 use Rattle.register.proofs.Opening.{kept-opened, opened, unopened}
-use Rattle.register.proofs.Telling.{put-at}
+use Rattle.register.proofs.Telling.{never, put-at}
 use Rattle.register.proofs.register.Register.open_line.Goals as goal
 
 pub returns-in_err-place-clause-told : goal.returns-in_err-place-clause-told
 returns-in_err-place-clause-told g c =
     let self = c.args.self.now in
-    passed (λ r. Tells (names g.N.Key.words g.N.Key.key g.N.Ord.cmp g.N.NameOrder.named g.N.NameOrder.name) self opens (line_answer r) self) _ _ c.from_residual.ensures.1 (unopened (pool_of self) self.table.lines self.next _ _ c.in_err-place.ensures)
+    passed (λ r. Tells (names g.N.Key.words g.N.Key.key g.N.Ord.cmp g.N.NameOrder.named g.N.NameOrder.name) self opens (line_answer r) self) _ _ c.from_residual.ensures.1 (record { step = unopened (pool_of self) self.table.lines self.next _ _ c.in_err-place.ensures; unchanged = λ _. refl })
 
 pub invariant_of-self : goal.invariant_of-self
 invariant_of-self g c =
@@ -24,5 +24,8 @@ invariant_of-self g c =
 pub returns-clause-told : goal.returns-clause-told
 returns-clause-told g c =
     let self = c.args.self.now in
-    opened (pool_of self) self.table.lines self.next c.in_ok-place.place c.in_ok-place.ensures _ (put-at self.table.lines _ _ _ _ _ c.put.ensures refl c.resting.ensures) _ _
-    (λ i. handed (record { place = c.from_parts.ensures.place i; serial = c.from_parts.ensures.serial i }))
+    record {
+      step = opened (pool_of self) self.table.lines self.next c.in_ok-place.place c.in_ok-place.ensures _ (put-at self.table.lines _ _ _ _ _ c.put.ensures refl c.resting.ensures) _ _
+          (λ i. handed (record { place = c.from_parts.ensures.place i; serial = c.from_parts.ensures.serial i }));
+      unchanged = never;
+    }

@@ -12,7 +12,10 @@ use Rattle.register.proofs.register.Register.retire.Goals as goal
 pub returns-in_default-clause-told : goal.returns-in_default-clause-told
 returns-in_default-clause-told g c =
     let self = c.args.self.now in
-    unretired (pool_of self) self.table.lines c.args.line.place c.args.line.serial (line_of self.table.lines c.args.line.place c.args.line.serial) refl _ self.next c.in_default.ensures.0
+    record {
+      step = unretired (pool_of self) self.table.lines c.args.line.place c.args.line.serial (line_of self.table.lines c.args.line.place c.args.line.serial) refl _ self.next c.in_default.ensures.0;
+      unchanged = λ _. refl;
+    }
 
 pub returns-in_default-clause-same : goal.returns-in_default-clause-same
 returns-in_default-clause-same g c = λ _. reopened c.args.self.now _ _ _ _
@@ -39,6 +42,9 @@ returns-clause-told g c =
     let self = c.args.self.now in
     let e = c.let_go.ensures in
     let p' = left_in self c.let_go.new.nodes c.let_go.new.state e.size in
-    λ s shows. shown-joined self c.let_go.new.nodes c.let_go.new.state e.size _ _ _
-    (retired (pool_of self) self.table.lines c.args.line.place c.args.line.serial (Some c.in-Ok.record) c.in-Ok.ensures.0
-    p' c.free.new.self.lines c.in-Ok.ensures.1 (λ t hs. by-parts (pool_of self) p' _ _ (e.owned t hs)) (c.free.ensures ∙ ap (λ (k : ℕ). set self.table.lines k None) c.into_parts-place.ensures.place) _ self.next e.fewer e.size s shows)
+    record {
+      step = λ s shows. shown-joined self c.let_go.new.nodes c.let_go.new.state e.size _ _ _
+          (retired (pool_of self) self.table.lines c.args.line.place c.args.line.serial (Some c.in-Ok.record) c.in-Ok.ensures.0
+          p' c.free.new.self.lines c.in-Ok.ensures.1 (λ t hs. by-parts (pool_of self) p' _ _ (e.owned t hs)) (c.free.ensures ∙ ap (λ (k : ℕ). set self.table.lines k None) c.into_parts-place.ensures.place) _ self.next e.fewer e.size s shows);
+      unchanged = never;
+    }

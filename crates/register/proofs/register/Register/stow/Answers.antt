@@ -2,7 +2,7 @@ use Rattle.std.proofs.Common.{Some, refl}
 use Rattle.register.proofs.Keeping.{the_places}
 use Rattle.register.proofs.Shelving.{kept-stowed, stowed-on, unstowed}
 use Rattle.register.proofs.Memory.{unwritten}
-use Rattle.register.proofs.Telling.{put-at}
+use Rattle.register.proofs.Telling.{never, put-at}
 use Rattle.register.specs.Tables.{line_of}
 use Rattle.register.proofs.register.Register.stow.Goals as goal
 use Rattle.register.specs.Registers.{pool_of}
@@ -10,7 +10,10 @@ use Rattle.register.specs.Registers.{pool_of}
 pub returns-in-Err-clause-told : goal.returns-in-Err-clause-told
 returns-in-Err-clause-told g c =
     let self = c.args.self.now in
-    unstowed (pool_of self) self.table.lines c.args.line.place c.args.line.serial (line_of self.table.lines c.args.line.place c.args.line.serial) refl c.args.letter _ self.next _ c.in-Err.ensures
+    record {
+      step = unstowed (pool_of self) self.table.lines c.args.line.place c.args.line.serial (line_of self.table.lines c.args.line.place c.args.line.serial) refl c.args.letter _ self.next _ c.in-Err.ensures;
+      unchanged = λ _. refl;
+    }
 
 pub invariant_of-self : goal.invariant_of-self
 invariant_of-self g c =
@@ -23,5 +26,8 @@ invariant_of-self g c =
 pub returns-clause-told : goal.returns-clause-told
 returns-clause-told g c =
     let self = c.args.self.now in
-    stowed-on (pool_of self) self.table.lines c.args.line.place c.args.line.serial (Some c.in-Ok.record) c.in-Ok.ensures.0 c.args.letter c.in-Ok.ensures.1 _
-    (put-at self.table.lines _ _ _ _ _ c.put.ensures c.into_parts-place.ensures.place c.stowed.ensures) _ self.next
+    record {
+      step = stowed-on (pool_of self) self.table.lines c.args.line.place c.args.line.serial (Some c.in-Ok.record) c.in-Ok.ensures.0 c.args.letter c.in-Ok.ensures.1 _
+          (put-at self.table.lines _ _ _ _ _ c.put.ensures c.into_parts-place.ensures.place c.stowed.ensures) _ self.next;
+      unchanged = never;
+    }
