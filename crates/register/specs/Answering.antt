@@ -1,5 +1,8 @@
 -- Which answers to a question are the model's, and which lines give a fixed answer again.
 use Rattle.std.specs.Prelude.{◌≡◌, ℕ, ◌≤◌, Bool, true, false, ◌⊎◌, List, [], ◌∷◌, Some, None, Option}
+use Rattle.std.specs.Option.{option_map}
+use Rattle.kinds.specs.Packed.{name_of}
+use Rattle.kinds.specs.declared.name.Name.{Name}
 use Rattle.tree.specs.Lookup.{last_of}
 use Rattle.register.specs.Asked.{Before}
 use Rattle.register.specs.Calls.{Answer, Call, Handle, Question, as_of, branches, counted, done, found, handed, named, next_name, refused, total, totalled}
@@ -35,6 +38,12 @@ module _ {K : Type 0} (𝓝 : Names K) (known : List Entry) where
   TotalAnswer name from to (totalled count sum) = IsTotal (stands known name) from to count sum
   TotalAnswer name from to (named next) = ⊥
 
+  -- the name that packs the bytes of the next name, or none where none is next
+  pub record NextNamed (given : Option (List ℕ)) (answer : Option Name) : Type 0 where
+    pub next : Option (List ℕ)
+    pub is-next : IsNext (Before 𝓝) known given next
+    pub packed : answer ≡ option_map name_of next
+
   abbrev pub NextAnswer : Option (List ℕ) → Answer → Type 0
   NextAnswer given (refused why) = Unit {0}
   NextAnswer given done = ⊥
@@ -42,7 +51,7 @@ module _ {K : Type 0} (𝓝 : Names K) (known : List Entry) where
   NextAnswer given (counted tally) = ⊥
   NextAnswer given (found reading) = ⊥
   NextAnswer given (totalled count sum) = ⊥
-  NextAnswer given (named next) = IsNext (Before 𝓝) known given next
+  NextAnswer given (named answer) = NextNamed given answer
 
   -- an answer that is not a refusal is the model's, over the entries known as of the recorded instant
   abbrev pub Answers : Question → Answer → Type 0
