@@ -18,14 +18,14 @@ use Rattle.register.specs.Contents.{Card, Names, Sheet, card_at}
 use Rattle.register.specs.History.{Entry, History, InTime, IsAsOf, IsTotal, Stage, WellNamed, known_at, stands}
 use Rattle.register.specs.Keyed.{value_at}
 
--- what is known as of r has the names of the stages
+-- the entries of all stages, and of those that are known as of r, have the names of the stages
+pub entries-named : (ss : List Stage) → AllByRecursion (λ (s : Stage). WellNamed s.entries) ss → WellNamed (flat_map (λ (s : Stage). s.entries) ss)
+entries-named [] h = tt
+entries-named (s ∷ ss) h = All-append _ s.entries _ h.0 (entries-named ss h.1)
+
 pub known-named : (r : ℕ) (history : History) → AllByRecursion (λ (s : Stage). WellNamed s.entries) history → WellNamed (known_at r history)
 known-named r history h =
-    all-joined (filter (λ (s : Stage). leb s.recorded r) history) (all_kept_by (λ (s : Stage). leb s.recorded r) _ history h)
-  where
-    all-joined : (ss : List Stage) → AllByRecursion (λ (s : Stage). WellNamed s.entries) ss → WellNamed (flat_map (λ (s : Stage). s.entries) ss)
-    all-joined [] h = tt
-    all-joined (s ∷ ss) h = All-append _ s.entries _ h.0 (all-joined ss h.1)
+    entries-named (filter (λ (s : Stage). leb s.recorded r) history) (all_kept_by (λ (s : Stage). leb s.recorded r) _ history h)
 
 module _ {K : Type 0} (𝓚 : Kind K) (named : Name → K) (called : K → Name) (name : K → Name) (back : (n : Name) → name (named n) ≡ n) where
   abbrev 𝓝 : Names K

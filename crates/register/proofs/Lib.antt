@@ -48,6 +48,7 @@ pub mod Replying
 pub mod Low
 pub mod Answerable
 pub mod Settling
+pub mod DueByHistory
 pub mod LawOfRuns
 pub mod Performing
 pub mod Runs

@@ -6,11 +6,11 @@ use Rattle.pool.specs.Reached.{Accounted}
 use Rattle.pool.specs.declared.pool.Pool.{Pool}
 use Rattle.tree.specs.Shape.{height}
 use Rattle.std.specs.List.{AllByRecursion}
-use Rattle.register.specs.Answering.{Answers, Branched, SettledAt, is_answer}
+use Rattle.register.specs.Answering.{Answers, Branched, is_answer, is_settled}
 use Rattle.register.specs.Calls.{Answer, Call, Handle, Question, abandons, asks, begins, branches, commits, counted, done, enters, fetches, found, handed, named, opens, refused, retires, stows, tallies, totalled}
 use Rattle.register.specs.Contents.{Names, card_tree}
-use Rattle.register.specs.Declined.{declined}
-use Rattle.register.specs.Histories.{told_by}
+use Rattle.register.specs.Due.{due}
+use Rattle.register.specs.Histories.{Histories, told_by}
 use Rattle.register.specs.History.{History, known_at}
 use Rattle.register.specs.Places.{is_resting, owners_of, record_of, sheet_at, stages_at}
 use Rattle.register.specs.Shown.{Shown, Shows, at}
@@ -32,9 +32,12 @@ abbrev pub shown_after : Shown → List Turn → Shown
 shown_after s [] = s
 shown_after s (t ∷ ts) = shown_after t.after ts
 
--- the history of a line after these turns
+-- what these turns tell of each line, and its history after them
+abbrev pub told_after : List Turn → Histories
+told_after turns = told_by (map call_with_answer turns)
+
 abbrev pub history_after : List Turn → Handle → History
-history_after turns handle = (told_by (map call_with_answer turns) handle).stages
+history_after turns handle = (told_after turns handle).stages
 
 -- ---- what is counted
 
@@ -130,14 +133,15 @@ pub record Law {K : Type 0} (𝓝 : Names K) (start : Shown) (turns : List Turn)
       → t.after.used ≤ (shown_after start front).used + is_done t.answer * growth 𝓝 (shown_after start front) t.call
   -- where as many lines were ended as were started, all nodes are free
   pub given_back : (front back : List Turn) → turns ≡ front ++ back → ended front ≡ started front → (shown_after start front).used ≡ 0
-  -- a refusal comes exactly where its condition holds and none before it in the table, and changes nothing
-  pub refusals : (front back : List Turn) (t : Turn) → turns ≡ front ++ t ∷ back → Refuses (declined 𝓝 (shown_after start front) t.call) (shown_after start front) t
+  -- a refusal comes exactly where its condition holds by the histories of the lines and none before it in the table, and changes nothing
+  pub refusals : (front back : List Turn) (t : Turn) → turns ≡ front ++ t ∷ back
+      → Refuses (due 𝓝 (told_after front) (shown_after start front) t.call) (shown_after start front) t
   -- every answer as of a recorded instant is the model's, over the line's history
   pub answered : (front back : List Turn) (t : Turn) → turns ≡ front ++ t ∷ back → (g : Handle) (recorded : ℕ) (q : Question) → t.call ≡ asks g recorded q
       → Answers 𝓝 (known_at recorded (history_after front g)) q t.answer
   -- an answer as of an instant that is not after the line's last stage is given again, by the line and by every line branched from it later
   pub fixed : (front between back : List Turn) (t t' : Turn) → turns ≡ front ++ t ∷ (between ++ t' ∷ back) → (g h : Handle) (recorded : ℕ) (q : Question)
-      → t.call ≡ asks g recorded q → is_answer t.answer ≡ true → SettledAt recorded (history_after front g)
+      → t.call ≡ asks g recorded q → is_answer t.answer ≡ true → is_settled recorded (history_after front g) ≡ true
       → t'.call ≡ asks h recorded q → Branched (map call_with_answer between) g h → is_resting (at (shown_after start (front ++ t ∷ between)) h) ≡ true
       → t'.answer ≡ t.answer
 

@@ -20,6 +20,7 @@ pub mod Registers
 pub mod Plain
 pub mod Histories
 pub mod Answering
+pub mod Due
 pub mod Law
 pub mod Runs
 pub mod Shelves
