@@ -58,7 +58,10 @@ module _ {K : Type 0} (𝓚 : Kind K) (named : Name → K) (called : K → Name)
       ∙ sym (or-else-map (λ (t : Stage). t.recorded) (last_of ss) s)
 
   settled-last-stage : (recorded : ℕ) (history : History) → is_settled recorded history ≡ not_after recorded (last_of (stages_from 𝓝 [] history))
-  settled-last-stage recorded history = one (last_of history) ∙ ap (λ (o : Option ℕ). option_map_or (nat_le recorded) o false) (sym (last-recorded [] history)) ∙ sym (two (last_of (stages_from 𝓝 [] history)))
+  settled-last-stage recorded history =
+      one (last_of history)
+      ∙ ap (λ (o : Option ℕ). option_map_or (nat_le recorded) o false) (sym (last-recorded [] history))
+      ∙ sym (two (last_of (stages_from 𝓝 [] history)))
     where
       one : (o : Option Stage) → option_map_or (λ (s : Stage). nat_le recorded s.recorded) o false ≡ option_map_or (nat_le recorded) (option_map (λ (s : Stage). s.recorded) o) false
       one None = refl

@@ -54,4 +54,5 @@ pub mod Performing
 pub mod Runs
 pub mod Shelves
 pub mod Moves
+pub mod ThreeNodes
 pub mod Working

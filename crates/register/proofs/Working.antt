@@ -13,6 +13,7 @@ use Rattle.tree.specs.Rebuild.{balance, rotate_double, rotate_left, rotate_right
 use Rattle.tree.specs.Remove.{first, join, remove, without_first}
 use Rattle.register.proofs.Asking.{as-of-answer, total-answer}
 use Rattle.register.proofs.Ruled.{name-holds}
+use Rattle.register.proofs.ThreeNodes.{three-used}
 use Rattle.register.specs.Asked.{count_within, last_up_to, sum_within}
 use Rattle.register.specs.Contents.{card_of, entered, sheet_of}
 use Rattle.register.specs.History.{InTime, IsAsOf, IsTotal, Stage, WellNamed}
@@ -66,5 +67,5 @@ worked-examples =
       measured_in_time = (refl, refl, refl);
       middle_at_the_root = (refl, (refl, (refl, (refl, (refl, (refl, tt))))));
       turned_by_withdrawing = refl;
-      three_nodes = refl;
+      three_nodes = λ nodes free used root holds. three-used nodes free used root _ _ _ _ _ _ _ _ _ holds;
     }

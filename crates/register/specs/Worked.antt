@@ -1,10 +1,12 @@
 -- Worked examples: a small history, a small register and small trees, with names in the order of their bytes, and what comes out of them.
-use Rattle.std.specs.Prelude.{◌≡◌, ℕ, ◌+◌, List, [], ◌∷◌, ℤ, pos, neg_ℤ, Some, None, codes, Option}
+use Rattle.std.specs.Prelude.{◌≡◌, ℕ, List, [], ◌∷◌, ℤ, pos, neg_ℤ, Some, None, codes, Option}
 use Rattle.std.specs.List.{AllByRecursion}
 use Rattle.kinds.specs.Instant.{instant_of}
 use Rattle.kinds.specs.Lexical.{by_words}
 use Rattle.kinds.specs.declared.name.Name.{Name}
+use Rattle.pool.specs.Held.{HoldsIn, held}
 use Rattle.pool.specs.Tree.{Tree, fork, leaf}
+use Rattle.pool.specs.declared.node.Node.{Node}
 use Rattle.pool.specs.declared.node.Words.{Words}
 use Rattle.tree.specs.Insert.{compared, insert}
 use Rattle.register.specs.Asked.{count_within, key_of, last_up_to, sheet_as_of, stages_from, sum_within}
@@ -100,11 +102,6 @@ six_orders =
     ∷ (30 ∷ 20 ∷ 10 ∷ [])
     ∷ []
 
--- a fork is a node, with those of its nested tree and of its two sides
-abbrev pub nodes_in : Tree → ℕ
-nodes_in leaf = 0
-nodes_in (fork words word tall nested left right) = 1 + nodes_in nested + nodes_in left + nodes_in right
-
 -- a line with a stage at 100, on whose sheet SG-7 has a reading at 40
 abbrev pub small_line : Tree
 small_line =
@@ -129,5 +126,5 @@ pub record WorkedExamples : Type 0 where
   pub middle_at_the_root : AllByRecursion (λ instants. root_of (card_with leaf instants) ≡ Some 20) six_orders
   -- of readings recorded at 20, 10, 30 and 40, withdrawing the one at 10 leaves 30 at the root
   pub turned_by_withdrawing : root_of (changed_tree Withdraw (instant_of 10) (card_with leaf (20 ∷ 10 ∷ 30 ∷ 40 ∷ []))) ≡ Some 30
-  -- one stage, one name and one reading take a node each
-  pub three_nodes : nodes_in small_line ≡ 3
+  -- with one stage, one name and one reading, 3 nodes are in use, in every pool that holds the line and nothing else
+  pub three_nodes : (nodes : List Node) (free used root : ℕ) → HoldsIn nodes free used (held root small_line ∷ []) → used ≡ 3
