@@ -55,4 +55,5 @@ pub mod Runs
 pub mod Shelves
 pub mod Moves
 pub mod ThreeNodes
+pub mod WorkedSteps
 pub mod Working

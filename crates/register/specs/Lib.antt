@@ -24,4 +24,5 @@ pub mod Due
 pub mod Law
 pub mod Runs
 pub mod Shelves
+pub mod WorkedScript
 pub mod Worked
