@@ -5,7 +5,6 @@ use Rattle.std.specs.Option.{option_map}
 use Rattle.std.specs.List.{flat_map, AllByRecursion}
 use Rattle.kinds.specs.Name.{IsName}
 use Rattle.std.specs.Ordering.{nat_cmp}
-use Rattle.kinds.specs.Packed.{bytes_of}
 use Rattle.kinds.specs.declared.name.Name.{Name}
 use Rattle.tree.specs.Kind.{Kind}
 use Rattle.register.proofs.Following.{next-name}
@@ -13,19 +12,20 @@ use Rattle.register.proofs.Modelling.{all-card, sheet-sorted, stands-there}
 use Rattle.register.proofs.Reading.{card-as-of, card-total}
 use Rattle.register.proofs.Staging.{sheet-as-of}
 use Rattle.register.proofs.Timed.{names_of}
-use Rattle.register.specs.Asked.{Before, ByInstant, count_within, key_of, last_up_to, next_name, sheet_after, sheet_as_of, stages_from, sum_within}
+use Rattle.register.specs.Answering.{NextNamed}
+use Rattle.register.specs.Asked.{ByInstant, count_within, key_of, last_up_to, next_name, sheet_after, sheet_as_of, stages_from, sum_within}
 use Rattle.register.specs.Contents.{Card, Names, Sheet, card_at}
-use Rattle.register.specs.History.{Entry, History, InTime, IsAsOf, IsNext, IsTotal, Stage, WellNamed, known_at, stands}
+use Rattle.register.specs.History.{Entry, History, InTime, IsAsOf, IsTotal, Stage, WellNamed, known_at, stands}
 use Rattle.register.specs.Keyed.{value_at}
 
--- what is known as of r has the names of the stages
+-- the entries of all stages, and of those that are known as of r, have the names of the stages
+pub entries-named : (ss : List Stage) → AllByRecursion (λ (s : Stage). WellNamed s.entries) ss → WellNamed (flat_map (λ (s : Stage). s.entries) ss)
+entries-named [] h = tt
+entries-named (s ∷ ss) h = All-append _ s.entries _ h.0 (entries-named ss h.1)
+
 pub known-named : (r : ℕ) (history : History) → AllByRecursion (λ (s : Stage). WellNamed s.entries) history → WellNamed (known_at r history)
 known-named r history h =
-    all-joined (filter (λ (s : Stage). leb s.recorded r) history) (all_kept_by (λ (s : Stage). leb s.recorded r) _ history h)
-  where
-    all-joined : (ss : List Stage) → AllByRecursion (λ (s : Stage). WellNamed s.entries) ss → WellNamed (flat_map (λ (s : Stage). s.entries) ss)
-    all-joined [] h = tt
-    all-joined (s ∷ ss) h = All-append _ s.entries _ h.0 (all-joined ss h.1)
+    entries-named (filter (λ (s : Stage). leb s.recorded r) history) (all_kept_by (λ (s : Stage). leb s.recorded r) _ history h)
 
 module _ {K : Type 0} (𝓚 : Kind K) (named : Name → K) (called : K → Name) (name : K → Name) (back : (n : Name) → name (named n) ≡ n) where
   abbrev 𝓝 : Names K
@@ -75,7 +75,7 @@ module _ {K : Type 0} (𝓚 : Kind K) (named : Name → K) (called : K → Name)
         (known-total known (known-named r history rules) asked rule m1 m2)
 
     pub next-answer : (given : Option (List ℕ))
-        → IsNext (Before 𝓝) known given (option_map (λ k. bytes_of (name k)) (next_name 𝓝 (option_map (key_of 𝓝) given) sheet))
+        → NextNamed 𝓝 known given (option_map name (next_name 𝓝 (option_map (key_of 𝓝) given) sheet))
     next-answer given =
-        subst (λ (s : Sheet K). IsNext (Before 𝓝) known given (option_map (λ k. bytes_of (name k)) (next_name 𝓝 (option_map (key_of 𝓝) given) s))) same
+        subst (λ (s : Sheet K). NextNamed 𝓝 known given (option_map name (next_name 𝓝 (option_map (key_of 𝓝) given) s))) same
         (next-name 𝓚 named called name back known (known-named r history rules) given)

@@ -6,10 +6,9 @@ use Rattle.std.proofs.lemmas.Bool.{and_parts, both_ways}
 use Rattle.std.specs.Option.{option_map}
 use Rattle.std.specs.Ordering.{is_lt}
 use Rattle.std.specs.List.{AllByRecursion}
-use Rattle.kinds.proofs.Spelling.{bytes_of-name_of}
 use Rattle.kinds.specs.Name.{IsName}
 use Rattle.std.specs.Ordering.{nat_cmp}
-use Rattle.kinds.specs.Packed.{bytes_of, name_of}
+use Rattle.kinds.specs.Packed.{name_of}
 use Rattle.kinds.specs.declared.name.Name.{Name}
 use Rattle.tree.specs.Kind.{Kind}
 use Rattle.tree.specs.Lookup.{last_of}
@@ -17,9 +16,10 @@ use Rattle.register.proofs.Listing.{all_found, all-value, numbers, value-here}
 use Rattle.register.proofs.Modelling.{all-with-card, sheet-sorted, stands-there}
 use Rattle.register.proofs.Sifting.{all_both, all-kept, all-unmap, ascending-map, first-all, first-before, first-none}
 use Rattle.register.proofs.Timed.{names_of}
+use Rattle.register.specs.Answering.{NextNamed}
 use Rattle.register.specs.Asked.{Before, comes_after, key_of, keys_of, next_name, sheet_after, sheet_from, sheet_with}
 use Rattle.register.specs.Contents.{Card, Names, Sheet, card_at, entered}
-use Rattle.register.specs.History.{After, Entry, IsNext, OnSheet, WellNamed, about, said_by}
+use Rattle.register.specs.History.{After, Entry, OnSheet, WellNamed, about, said_by}
 use Rattle.register.specs.Keyed.{value_at}
 
 -- ---- names with readings
@@ -64,13 +64,9 @@ module _ {K : Type 0} (𝓚 : Kind K) (named : Name → K) (called : K → Name)
     abbrev sheet : Sheet K
     sheet = sheet_after 𝓝 known
 
-    -- the bytes of the name of a key
-    abbrev spelling : K → List ℕ
-    spelling k = bytes_of (name k)
-
-    spelling-back : (k : K) (spelled : KeyOfName k) → spelled.bytes ≡ spelling k
-    spelling-back k spelled =
-        sym (bytes_of-name_of spelled.bytes spelled.rule) ∙ ap bytes_of (sym (back (name_of spelled.bytes))) ∙ ap spelling spelled.is
+    -- the name of a key packs the bytes
+    name-back : (k : K) (spelled : KeyOfName k) → name k ≡ name_of spelled.bytes
+    name-back k spelled = ap name (sym spelled.is) ∙ back (name_of spelled.bytes)
 
     -- a name with a reading that stands has its key on the sheet
     pub on-sheet-key : (P : K → Type 0) (asked : List ℕ) → OnSheet known asked → AllByRecursion P (keys_of sheet) → P (key_of 𝓝 asked)
@@ -119,13 +115,18 @@ module _ {K : Type 0} (𝓚 : Kind K) (named : Name → K) (called : K → Name)
         one Equal e = absurd (both_ways _ refl e)
         one Greater e = absurd (both_ways _ refl e)
 
-    -- the next key on the sheet, as the bytes of its name, is the next name
-    pub next-name : (given : Option (List ℕ)) → IsNext (Before 𝓝) known given (option_map spelling (next_name 𝓝 (option_map (key_of 𝓝) given) sheet))
+    -- the name of the next key on the sheet is the next name
+    pub next-name : (given : Option (List ℕ)) → NextNamed 𝓝 known given (option_map name (next_name 𝓝 (option_map (key_of 𝓝) given) sheet))
     next-name given = one (next_name 𝓝 (option_map (key_of 𝓝) given) sheet) refl
       where
-        one : (o : Option K) → next_name 𝓝 (option_map (key_of 𝓝) given) sheet ≡ o → IsNext (Before 𝓝) known given (option_map spelling o)
-        one None e = λ asked on after.
-            both_ways _ (on-sheet-key (λ k. passes given k ≡ false) asked on (first-none (passes given) (keys_of sheet) e)) (after-tells given asked after)
+        one : (o : Option K) → next_name 𝓝 (option_map (key_of 𝓝) given) sheet ≡ o → NextNamed 𝓝 known given (option_map name o)
+        one None e =
+            record {
+              next = None;
+              is-next = λ asked on after.
+                  both_ways _ (on-sheet-key (λ k. passes given k ≡ false) asked on (first-none (passes given) (keys_of sheet) e)) (after-tells given asked after);
+              packed = refl;
+            }
         one (Some k) e =
             let test : K → Bool = passes given in
             let kept : List K = filter test (keys_of sheet) in
@@ -134,9 +135,13 @@ module _ {K : Type 0} (𝓚 : Kind K) (named : Name → K) (called : K → Name)
             let after : passes given k ≡ true = first-all _ kept k e (kept_by_passes test (keys_of sheet)) in
             let ascending = ascending-map (λ (x : K × Card). x.0) (λ (a b : K). 𝓚.order a b ≡ Less) sheet (sheet-sorted 𝓚 named called known).names in
             let first = first-before 𝓚 test (keys_of sheet) k ascending e in
-            subst (λ (n : List ℕ). IsNext (Before 𝓝) known given (Some n)) (spelling-back k spelled) (
-              on,
-              after-told given spelled.bytes (subst (λ (j : K). passes given j ≡ true) (sym spelled.is) after),
-              λ asked other later l. on-sheet-key (λ j. passes given j ≡ true → 𝓚.order j k ≡ Less → ⊥) asked other first (after-tells given asked later)
-                  (subst (λ (j : K). 𝓚.order (key_of 𝓝 asked) j ≡ Less) spelled.is l),
-            )
+            record {
+              next = Some spelled.bytes;
+              is-next = (
+                on,
+                after-told given spelled.bytes (subst (λ (j : K). passes given j ≡ true) (sym spelled.is) after),
+                λ asked other later l. on-sheet-key (λ j. passes given j ≡ true → 𝓚.order j k ≡ Less → ⊥) asked other first (after-tells given asked later)
+                    (subst (λ (j : K). 𝓚.order (key_of 𝓝 asked) j ≡ Less) spelled.is l),
+              );
+              packed = ap Some (name-back k spelled);
+            }

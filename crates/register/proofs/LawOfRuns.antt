@@ -1,11 +1,12 @@
 -- The law of whole runs: every run of turns that follow one another from a newly made register keeps it.
-use Rattle.std.proofs.Common.{◌≡◌, ℕ, ◌<◌, true, false, List, ◌∷◌, ◌++◌, map, None, sym, refl, ap, ◌∙◌, subst, arith}
+use Rattle.std.proofs.Common.{◌≡◌, ℕ, ◌<◌, true, false, List, ◌∷◌, ◌++◌, map, None, Option, sym, refl, ap, ◌∙◌, subst, arith}
 use Rattle.kinds.specs.declared.name.Name.{Name}
 use Rattle.tree.specs.Kind.{Kind}
 use Rattle.pool.specs.declared.pool.Pool.{Pool}
 use Rattle.register.proofs.Accepting.{resting-at, row-false, row-true}
 use Rattle.register.proofs.Answerable.{answerable}
 use Rattle.register.proofs.Bounding.{step-bounded, step-refuses, turn_at, turns-accounted}
+use Rattle.register.proofs.DueByHistory.{due-declined}
 use Rattle.register.proofs.Recounting.{Recounted}
 use Rattle.register.proofs.Replying.{Replied, replied, step-answered}
 use Rattle.register.proofs.Retelling.{new-recounted, recounted-last, recounted-step}
@@ -15,17 +16,18 @@ use Rattle.register.proofs.Settling.{Settled, settled-last, settled-step}
 use Rattle.register.proofs.Splitting.{Seen, by-step, follows-back, follows-front, kept-last, left-unchanged, shown-append, shown-last}
 use Rattle.register.proofs.Staging.{sheet-as-of}
 use Rattle.register.proofs.Timed.{names_of}
-use Rattle.register.specs.Answering.{Branched, SettledAt, is_answer}
+use Rattle.register.specs.Answering.{Branched, is_answer, is_settled}
 use Rattle.register.specs.Asked.{sheet_after}
 use Rattle.register.specs.Calls.{Answer, Call, Handle, Question, asks}
 use Rattle.register.specs.Contents.{Names}
 use Rattle.register.specs.Declined.{crossed, declined, misnamed}
-use Rattle.register.specs.Histories.{Histories, after_call, nothing_told, told_by, told_from}
+use Rattle.register.specs.Histories.{Histories, after_call, nothing_told, told_from}
 use Rattle.register.specs.History.{Entry, known_at}
-use Rattle.register.specs.Law.{EveryRun, Follows, Law, LeavesNodes, Turn, call_with_answer, history_after, shown_after}
+use Rattle.register.specs.Law.{EveryRun, Follows, Law, LeavesNodes, Refuses, Turn, call_with_answer, history_after, shown_after, told_after}
 use Rattle.register.specs.Places.{is_resting}
 use Rattle.register.specs.Shown.{Shown, at, newly_made}
 use Rattle.register.specs.Steps.{Step, answer_to}
+use Rattle.register.specs.declared.refusal.Refusal.{Refusal}
 
 differ : {A : Type 0} → ◌≡◌ {A = ℕ} 0 1 → A
 differ e = absurd (omega (arith, e))
@@ -72,13 +74,10 @@ module _ {K : Type 0} (𝓚 : Kind K) (named : Name → K) (called : K → Name)
     abbrev start : Shown
     start = newly_made nodes first
 
-    abbrev told-after : List Turn → Histories
-    told-after front = told_by (map call_with_answer front)
-
     follows_by : (front behind : List Turn) → turns ≡ front ++ behind → Follows 𝓝 start (front ++ behind)
     follows_by front behind e = subst (Follows 𝓝 start) e run
 
-    recounted-at : (front behind : List Turn) → turns ≡ front ++ behind → Recounted 𝓝 (told-after front) (shown_after start front).places
+    recounted-at : (front behind : List Turn) → turns ≡ front ++ behind → Recounted 𝓝 (told_after front) (shown_after start front).places
     recounted-at front behind e =
         recounted-last 𝓝 (λ h. nothing_told) start front (new-recounted 𝓝 (λ h. nothing_told) nodes first) (follows-front 𝓝 start front behind (follows_by front behind e))
 
@@ -87,14 +86,14 @@ module _ {K : Type 0} (𝓚 : Kind K) (named : Name → K) (called : K → Name)
         kept-last 𝓝 Numbered (numbered_step 𝓝) start front (new-numbered nodes first) (follows-front 𝓝 start front behind (follows_by front behind e))
 
     answers-fixed : (front between behind : List Turn) (t t' : Turn) → turns ≡ front ++ t ∷ (between ++ t' ∷ behind) → (g h : Handle) (r : ℕ) (q : Question)
-        → t.call ≡ asks g r q → is_answer t.answer ≡ true → SettledAt r (history_after front g)
+        → t.call ≡ asks g r q → is_answer t.answer ≡ true → is_settled r (history_after front g) ≡ true
         → t'.call ≡ asks h r q → Branched (map call_with_answer between) g h → is_resting (at (shown_after start (front ++ t ∷ between)) h) ≡ true
         → t'.answer ≡ t.answer
     answers-fixed front between behind t t' e g h r q call-is is settled call'-is branched rests =
         let rest : List Turn = between ++ t' ∷ behind in
         let s : Shown = shown_after start front in
         let s' : Shown = shown_after t.after between in
-        let told : Histories = told-after front in
+        let told : Histories = told_after front in
         let told₁ : Histories = after_call told t.call t.answer in
         let told' : Histories = told_from told₁ (map call_with_answer between) in
         let f : Follows 𝓝 s (t ∷ rest) = follows-back 𝓝 start front (t ∷ rest) (follows_by front (t ∷ rest) e) in
@@ -119,11 +118,14 @@ module _ {K : Type 0} (𝓚 : Kind K) (named : Name → K) (called : K → Name)
           accounted = turns-accounted 𝓝 start turns run;
           bounded = λ front behind t e. step-bounded 𝓝 (shown_after start front) t.after t.call t.answer (turn_at 𝓝 start turns front behind t e run);
           given_back = λ front behind e same. all-given-back 𝓝 nodes first turns front behind run e same;
-          refusals = λ front behind t e. step-refuses 𝓝 (shown_after start front) t (turn_at 𝓝 start turns front behind t e run);
+          refusals = λ front behind t e.
+              let s : Shown = shown_after start front in
+              subst (λ (why : Option Refusal). Refuses why s t) (sym (due-declined 𝓚 named called back (told_after front) s (recounted-at front (t ∷ behind) e) t.call))
+              (step-refuses 𝓝 s t (turn_at 𝓝 start turns front behind t e run));
           unchanged = λ front behind t e. left-unchanged made front behind t (subst (LeavesNodes made) e leaves);
           answered = λ front behind t e g r q call-is.
               let s : Shown = shown_after start front in
-              step-answered 𝓚 named called back (told-after front) s t.after g r q t.answer (recounted-at front (t ∷ behind) e)
+              step-answered 𝓚 named called back (told_after front) s t.after g r q t.answer (recounted-at front (t ∷ behind) e)
               (subst (λ (c : Call). Step 𝓝 s c t.answer t.after) call-is (turn_at 𝓝 start turns front behind t e run));
           fixed = answers-fixed;
         }

@@ -49,9 +49,12 @@ pub mod Replying
 pub mod Low
 pub mod Answerable
 pub mod Settling
+pub mod DueByHistory
 pub mod LawOfRuns
 pub mod Performing
 pub mod Runs
 pub mod Shelves
 pub mod Moves
+pub mod ThreeNodes
+pub mod WorkedSteps
 pub mod Working

@@ -7,7 +7,6 @@ use Rattle.std.specs.Ordering.{is_le, is_lt}
 use Rattle.std.specs.List.{AllByRecursion}
 use Rattle.kinds.specs.Readings.{nearest-same}
 use Rattle.std.specs.Ordering.{nat_cmp}
-use Rattle.kinds.specs.Packed.{bytes_of}
 use Rattle.kinds.specs.Reading.{reading_of as reading_from}
 use Rattle.kinds.specs.declared.instant.Instant.{Instant}
 use Rattle.kinds.specs.declared.name.Name.{Name}
@@ -166,18 +165,18 @@ module _ {K : Type 0} (𝓝 : Names K) where
 
   -- the name of an item
   item-named : (o : Option (Item K))
-      → option_map bytes_of (option_map (λ (x : Item K). 𝓝.name x.key) o) ≡ option_map (λ (key : K). bytes_of (𝓝.name key)) (option_map (λ (x : Item K). x.key) o)
+      → option_map (λ (x : Item K). 𝓝.name x.key) o ≡ option_map 𝓝.name (option_map (λ (x : Item K). x.key) o)
   item-named None = refl
   item-named (Some x) = refl
 
   pub first-named : (t : Tree) (r : Option Name) → r ≡ option_map (λ (x : Item K). 𝓝.name x.key) (first_of (items 𝓝.key t))
-      → option_map bytes_of r ≡ option_map (λ (key : K). bytes_of (𝓝.name key)) (next_name 𝓝 None (sheet_of 𝓝 t))
+      → r ≡ option_map 𝓝.name (next_name 𝓝 None (sheet_of 𝓝 t))
   first-named t r is =
-      ap (option_map bytes_of) is ∙ item-named (first_of (items 𝓝.key t))
-      ∙ ap (option_map (λ (key : K). bytes_of (𝓝.name key))) (sym (ap (λ (ks : List K). first_of (filter (comes_after 𝓝 None) ks)) (keys-shown t) ∙ first_key (items 𝓝.key t)))
+      is ∙ item-named (first_of (items 𝓝.key t))
+      ∙ ap (option_map 𝓝.name) (sym (ap (λ (ks : List K). first_of (filter (comes_after 𝓝 None) ks)) (keys-shown t) ∙ first_key (items 𝓝.key t)))
 
   pub next-named : (k : K) (t : Tree) (r : Option Name) → r ≡ option_map (λ (x : Item K). 𝓝.name x.key) (first_after 𝓝.order k (items 𝓝.key t))
-      → option_map bytes_of r ≡ option_map (λ (key : K). bytes_of (𝓝.name key)) (next_name 𝓝 (Some k) (sheet_of 𝓝 t))
+      → r ≡ option_map 𝓝.name (next_name 𝓝 (Some k) (sheet_of 𝓝 t))
   next-named k t r is =
-      ap (option_map bytes_of) is ∙ item-named (first_after 𝓝.order k (items 𝓝.key t))
-      ∙ ap (option_map (λ (key : K). bytes_of (𝓝.name key))) (sym (ap (λ (ks : List K). first_of (filter (comes_after 𝓝 (Some k)) ks)) (keys-shown t) ∙ after-key k (items 𝓝.key t)))
+      is ∙ item-named (first_after 𝓝.order k (items 𝓝.key t))
+      ∙ ap (option_map 𝓝.name) (sym (ap (λ (ks : List K). first_of (filter (comes_after 𝓝 (Some k)) ks)) (keys-shown t) ∙ after-key k (items 𝓝.key t)))

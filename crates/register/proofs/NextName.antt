@@ -1,8 +1,8 @@
 -- The answers to questions about the names of a sheet, and why they are declined.
 use Rattle.std.proofs.Common.{◌≡◌, ℕ, ◌<◌, Bool, true, false, cond, ◌||◌, List, Some, None, Ok, Err, Option, sym, refl, ap, ◌∙◌}
 use Rattle.std.specs.Option.{option_map}
-use Rattle.kinds.specs.Packed.{bytes_of}
 use Rattle.kinds.specs.declared.instant.Instant.{Instant}
+use Rattle.kinds.specs.declared.name.Name.{Name}
 use Rattle.pool.specs.Held.{Carries, CarriesIn}
 use Rattle.pool.specs.Tree.{Tree}
 use Rattle.pool.specs.declared.pool.Pool.{Pool}
@@ -61,10 +61,10 @@ module _ {K : Type 0} (𝓝 : Names K) (p : Pool) (ls : List (Option Record)) (n
         pub sheet-in-order : ByName 𝓝 (sheet_up_to when line)
         sheet-in-order = (sheet-ordered 𝓝 when line (line-ordered 𝓝 s shows.ordered handle)).sheet
 
-        pub answered : (name : Option (List ℕ)) → name ≡ option_map (λ (key : K). bytes_of (𝓝.name key)) (next 𝓝 (option_map (key_of 𝓝) given) (sheet_of 𝓝 (sheet_up_to when line)))
+        pub answered : (name : Option Name) → name ≡ option_map 𝓝.name (next 𝓝 (option_map (key_of 𝓝) given) (sheet_of 𝓝 (sheet_up_to when line)))
             → Step 𝓝 s call (named name) s
         answered name is =
             let shown : sheet_of 𝓝 (sheet_up_to when line) ≡ sheet_as_of recorded (stages_of 𝓝 line) =
             ap (λ (i : Instant). sheet_of 𝓝 (sheet_up_to i line)) (sym (instant-is when recorded when-is)) ∙ sym (sheet-shown 𝓝 recorded small line (line-ordered 𝓝 s shows.ordered handle).line) in
             let go = refusal_is ∙ ap (λ (b : Bool). cond b (Some TreeTooHigh) None) (found line rest.1).0 in
-            accepted 𝓝 s s call _ go (ap named (is ∙ ap (λ (sheet : Sheet K). option_map (λ (key : K). bytes_of (𝓝.name key)) (next 𝓝 (option_map (key_of 𝓝) given) sheet)) shown), refl)
+            accepted 𝓝 s s call _ go (ap named (is ∙ ap (λ (sheet : Sheet K). option_map 𝓝.name (next 𝓝 (option_map (key_of 𝓝) given) sheet)) shown), refl)

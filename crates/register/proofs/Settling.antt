@@ -1,6 +1,7 @@
 -- What was known of a line as of an instant that is not after its last stage stays known, of the line and of every line branched from it.
-use Rattle.std.proofs.Common.{◌≡◌, ℕ, ◌<◌, ◌≤◌, Bool, true, false, cond, ◌&&◌, eqb, List, [], ◌∷◌, ◌++◌, map, Some, None, Option, sym, refl, ap, ◌∙◌, subst, inl, inr, arith}
-use Rattle.std.proofs.lemmas.Bool.{eqb-true, ne_eqb}
+use Rattle.std.proofs.Common.{◌≡◌, ℕ, ◌<◌, Bool, true, false, cond, ◌&&◌, eqb, leb, List, [], ◌∷◌, ◌++◌, map, Some, None, Option, sym, refl, ap, ◌∙◌, subst, inl, inr, arith}
+use Rattle.std.proofs.lemmas.Bool.{both_ways, eqb-true, le-leb, leb-true, ne_eqb}
+use Rattle.std.specs.Option.{option_map_or}
 use Rattle.std.specs.List.{AllByRecursion}
 use Rattle.tree.specs.Lookup.{last_of, or_else}
 use Rattle.register.proofs.Accepting.{Does}
@@ -10,7 +11,7 @@ use Rattle.register.proofs.Retelling.{question-tells, recounted-step, tally-tell
 use Rattle.register.proofs.Serials.{next-step}
 use Rattle.register.proofs.Splitting.{by-step}
 use Rattle.register.proofs.Staging.{known_kept}
-use Rattle.register.specs.Answering.{Branched, SettledAt}
+use Rattle.register.specs.Answering.{Branched, is_settled}
 use Rattle.register.specs.Calls.{Answer, Call, Handle, abandons, asks, begins, branches, commits, enters, fetches, handed, opens, refused, retires, stows, tallies}
 use Rattle.register.specs.Contents.{Names}
 use Rattle.register.specs.Histories.{Histories, Told, after_call, closed, told_from, with_told}
@@ -29,35 +30,34 @@ last-push (x ∷ xs) y = rw (last-push xs y)
 
 -- the instant is not after the stage
 abbrev UpTo : ℕ → Option Stage → Type 0
-UpTo r None = ⊥
-UpTo r (Some stage) = r ≤ stage.recorded
+UpTo r stage = option_map_or (λ (s : Stage). leb r s.recorded) stage false ≡ true
 
 -- an instant after all stages is after one that is not after the last
-settled_before : (r recorded : ℕ) (history : History) → SettledAt r history → AllByRecursion (λ (s : Stage). s.recorded < recorded) history → r < recorded
-settled_before r recorded [] h a = absurd h
+settled_before : (r recorded : ℕ) (history : History) → is_settled r history ≡ true → AllByRecursion (λ (s : Stage). s.recorded < recorded) history → r < recorded
+settled_before r recorded [] h a = absurd (both_ways _ refl h)
 settled_before r recorded (s ∷ ss) h a = one (last_of ss) (λ l. settled_before r recorded ss l a.1) h
   where
     one : (o : Option Stage) → (UpTo r o → r < recorded) → UpTo r (or_else o (Some s)) → r < recorded
-    one None rest l = omega (arith, l, a.0)
+    one None rest l = omega (arith, leb-true r s.recorded l, a.0)
     one (Some stage) rest l = rest l
 
 -- as of r this is known of the line, whose last stage is not before r
 pub record Settled (r : ℕ) (known : List Entry) (line : Told) : Type 0 where
   pub known_is : known_at r line.stages ≡ known
-  pub last : SettledAt r line.stages
+  pub last : is_settled r line.stages ≡ true
 
 settled-again : (r : ℕ) (known : List Entry) (line line' : Told) → line'.stages ≡ line.stages → Settled r known line → Settled r known line'
 settled-again r known line line' e h =
-    record { known_is = ap (known_at r) e ∙ h.known_is; last = subst (SettledAt r) (sym e) h.last }
+    record { known_is = ap (known_at r) e ∙ h.known_is; last = ap (is_settled r) e ∙ h.last }
 
 settled-more : (r : ℕ) (known : List Entry) (line line' : Told) (stage : Stage) → line'.stages ≡ line.stages ++ stage ∷ []
     → AllByRecursion (λ (s : Stage). s.recorded < stage.recorded) line.stages → Settled r known line → Settled r known line'
 settled-more r known line line' stage e later h =
     let after : r < stage.recorded = settled_before r stage.recorded line.stages h.last later in
-    let end : SettledAt r (line.stages ++ stage ∷ []) = subst (UpTo r) (sym (last-push line.stages stage)) (omega arith) in
+    let end : is_settled r (line.stages ++ stage ∷ []) ≡ true = subst (UpTo r) (sym (last-push line.stages stage)) (le-leb r stage.recorded (omega arith)) in
     record {
       known_is = ap (known_at r) e ∙ known_kept r line.stages stage after ∙ h.known_is;
-      last = subst (SettledAt r) (sym e) end;
+      last = ap (is_settled r) e ∙ end;
     }
 
 -- ---- one line of many

@@ -62,6 +62,15 @@ module _ {K : Type 0} (𝓝 : Names K) where
       ∙ ap (λ (base : Sheet K). stages_from 𝓝 after ss ++ (stage.recorded, sheet_from 𝓝 base stage.entries) ∷ [])
       (sym (or_later sheet (last_of (stages_from 𝓝 after ss)) (s.recorded, after))))
 
+  -- the sheet of the last stage is what the entries of all stages leave
+  pub last-stage-sheet : (sheet : Sheet K) (history : History)
+      → sheet_or sheet (last_of (stages_from 𝓝 sheet history)) ≡ sheet_from 𝓝 sheet (flat_map (λ (s : Stage). s.entries) history)
+  last-stage-sheet sheet [] = refl
+  last-stage-sheet sheet (s ∷ ss) =
+      let after : Sheet K = sheet_from 𝓝 sheet s.entries in
+      or_later sheet (last_of (stages_from 𝓝 after ss)) (s.recorded, after) ∙ last-stage-sheet after ss
+      ∙ sym (sheet-append sheet s.entries (flat_map (λ (t : Stage). t.entries) ss))
+
   none-up-to : (r : ℕ) (sheet : Sheet K) (history : History) → AllByRecursion (λ (s : Stage). r < s.recorded) history → last_up_to r (stages_from 𝓝 sheet history) ≡ None
   none-up-to r sheet [] h = refl
   none-up-to r sheet (s ∷ ss) h = rw (lt-leb s.recorded r h.0) (none-up-to r (sheet_from 𝓝 sheet s.entries) ss h.1)

@@ -13,11 +13,14 @@ use Rattle.tree.specs.Rebuild.{balance, rotate_double, rotate_left, rotate_right
 use Rattle.tree.specs.Remove.{first, join, remove, without_first}
 use Rattle.register.proofs.Asking.{as-of-answer, total-answer}
 use Rattle.register.proofs.Ruled.{name-holds}
+use Rattle.register.proofs.ThreeNodes.{three-used}
+use Rattle.register.proofs.WorkedSteps.{script-steps}
 use Rattle.register.specs.Asked.{count_within, last_up_to, sum_within}
 use Rattle.register.specs.Contents.{card_of, entered, sheet_of}
 use Rattle.register.specs.History.{InTime, IsAsOf, IsTotal, Stage, WellNamed}
 use Rattle.register.specs.Trees.{changed_tree, with_card_tree}
-use Rattle.register.specs.Worked.{WorkedExamples, card_then, forward, gauge, history, standing}
+use Rattle.register.specs.Worked.{WorkedExamples, card_then, standing}
+use Rattle.register.specs.WorkedScript.{forward, gauge, history}
 
 -- names by their bytes are a kind of key
 abbrev by_bytes : Kind Name
@@ -59,12 +62,17 @@ pub worked-examples : WorkedExamples
 unfolding weighed entered sheet_of card_of changed_tree with_card_tree find insert remove join first without_first balance rotate_left rotate_right rotate_double
 worked-examples =
     record {
+      script = script-steps;
       before_the_second_stage = (latest 150 70, refl);
       at_the_second_stage = (latest 200 70, refl);
       before_the_first_stage = (latest 99 70, refl);
       both_readings = (total 199 40 60, refl, refl);
-      measured_in_time = (refl, refl, refl);
+      measured_in_time = (refl, (refl, refl));
+      longest_name = refl;
+      broken_names = ((refl, refl), ((refl, refl), ((refl, refl), tt)));
+      enough_nodes = (refl, (refl, refl));
+      most_lines = (refl, refl, refl);
       middle_at_the_root = (refl, (refl, (refl, (refl, (refl, (refl, tt))))));
       turned_by_withdrawing = refl;
-      three_nodes = refl;
+      three_nodes = λ nodes free used root holds. three-used nodes free used root _ _ _ _ _ _ _ _ _ holds;
     }

@@ -1,10 +1,13 @@
 -- Which answers to a question are the model's, and which lines give a fixed answer again.
-use Rattle.std.specs.Prelude.{◌≡◌, ℕ, ◌≤◌, Bool, true, false, ◌⊎◌, List, [], ◌∷◌, Some, None, Option}
+use Rattle.std.specs.Prelude.{◌≡◌, ℕ, Bool, true, false, ◌⊎◌, List, [], ◌∷◌, Option, nat_le}
+use Rattle.std.specs.Option.{option_map, option_map_or}
+use Rattle.kinds.specs.Packed.{name_of}
+use Rattle.kinds.specs.declared.name.Name.{Name}
 use Rattle.tree.specs.Lookup.{last_of}
 use Rattle.register.specs.Asked.{Before}
 use Rattle.register.specs.Calls.{Answer, Call, Handle, Question, as_of, asks, branches, counted, done, found, handed, named, next_name, refused, tallies, total, totalled}
 use Rattle.register.specs.Contents.{Names}
-use Rattle.register.specs.History.{Entry, History, IsAsOf, IsNext, IsTotal, stands}
+use Rattle.register.specs.History.{Entry, History, IsAsOf, IsNext, IsTotal, Stage, stands}
 
 -- an answer, and not a refusal
 abbrev pub is_answer : Answer → Bool
@@ -42,6 +45,12 @@ module _ {K : Type 0} (𝓝 : Names K) (known : List Entry) where
   TotalAnswer name from to (totalled count sum) = IsTotal (stands known name) from to count sum
   TotalAnswer name from to (named next) = ⊥
 
+  -- the name that packs the bytes of the next name, or none where none is next
+  pub record NextNamed (given : Option (List ℕ)) (answer : Option Name) : Type 0 where
+    pub next : Option (List ℕ)
+    pub is-next : IsNext (Before 𝓝) known given next
+    pub packed : answer ≡ option_map name_of next
+
   abbrev pub NextAnswer : Option (List ℕ) → Answer → Type 0
   NextAnswer given (refused why) = Unit {0}
   NextAnswer given done = ⊥
@@ -49,7 +58,7 @@ module _ {K : Type 0} (𝓝 : Names K) (known : List Entry) where
   NextAnswer given (counted tally) = ⊥
   NextAnswer given (found reading) = ⊥
   NextAnswer given (totalled count sum) = ⊥
-  NextAnswer given (named next) = IsNext (Before 𝓝) known given next
+  NextAnswer given (named answer) = NextNamed given answer
 
   -- an answer that is not a refusal is the model's, over the entries known as of the recorded instant
   abbrev pub Answers : Question → Answer → Type 0
@@ -58,8 +67,8 @@ module _ {K : Type 0} (𝓝 : Names K) (known : List Entry) where
   Answers (next_name given) a = NextAnswer given a
 
 -- the recorded instant is not after the line's last stage
-abbrev pub SettledAt : ℕ → History → Type 0
-SettledAt recorded history = elim (last_of history) [ None ↦ ⊥ | Some stage ↦ recorded ≤ stage.recorded ]
+abbrev pub is_settled : ℕ → History → Bool
+is_settled recorded history = option_map_or (λ (s : Stage). nat_le recorded s.recorded) (last_of history) false
 
 -- through these calls with their answers, in their order, the line h is g, or was branched from it, directly or through others
 abbrev pub Branched : List (Call × Answer) → Handle → Handle → Type 0

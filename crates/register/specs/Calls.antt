@@ -1,7 +1,6 @@
 -- The calls on a register, with any numbers as handles, and their answers.
 use Rattle.std.specs.Prelude.{ℕ, List, ℤ, Ok, Err, Option, Result}
 use Rattle.std.specs.Option.{option_map}
-use Rattle.kinds.specs.Packed.{bytes_of}
 use Rattle.kinds.specs.declared.instant.Instant.{Instant}
 use Rattle.kinds.specs.declared.name.Name.{Name}
 use Rattle.kinds.specs.declared.reading.Reading.{Reading}
@@ -61,10 +60,10 @@ pub data Answer : Type 0 where
   -- the handle of a line that was opened, branched off or fetched
   handed : Handle → Answer
   counted : Tally → Answer
-  -- a reading with its measured instant, or none; a number and a sum; a name's bytes, or none
+  -- a reading with its measured instant, or none; a number and a sum; a name, or none
   found : Option (ℕ × ℤ) → Answer
   totalled : ℕ → ℤ → Answer
-  named : Option (List ℕ) → Answer
+  named : Option Name → Answer
 
 -- the answer that a call's result stands for
 abbrev pub line_answer : Result Line Refusal → Answer
@@ -88,7 +87,7 @@ total_answer (Ok sum) = totalled sum.count sum.sum
 total_answer (Err why) = refused why
 
 abbrev pub name_answer : Result (Option Name) Refusal → Answer
-name_answer (Ok name) = named (option_map bytes_of name)
+name_answer (Ok name) = named name
 name_answer (Err why) = refused why
 
 abbrev pub entry_answer : Result (Unit {0}) Refusal → Answer

@@ -1,10 +1,10 @@
 -- Which refusal a call meets, if any: for each call its conditions in the table's order, and the first that holds declines it.
-use Rattle.std.specs.Prelude.{ℕ, Bool, false, not, ◌||◌, [], ◌∷◌, is_some, Some, None, Option, nat_le, nat_lt}
+use Rattle.std.specs.Prelude.{ℕ, Bool, false, not, ◌||◌, List, [], ◌∷◌, is_some, Some, None, Option, nat_le, nat_lt}
 use Rattle.kinds.specs.Packed.{name_of}
 use Rattle.pool.specs.Tree.{Tree}
 use Rattle.tree.specs.Lookup.{last_of}
 use Rattle.tree.specs.Shape.{height}
-use Rattle.register.specs.Calls.{Call, Question, abandons, as_of, asks, begins, branches, commits, enters, fetches, next_name, opens, retires, stows, tallies, total}
+use Rattle.register.specs.Calls.{Call, Handle, Question, abandons, as_of, asks, begins, branches, commits, enters, fetches, next_name, opens, retires, stows, tallies, total}
 use Rattle.register.specs.Contents.{Names, card_tree, read_at, sheet_of, sheet_tree_as_of, stages_of}
 use Rattle.register.specs.Places.{is_free, is_resting, is_sitting, is_stowed, recorded_at, sheet_at, stages_at}
 use Rattle.register.specs.Refusals.{first_of}
@@ -69,53 +69,59 @@ sheet_too_high 𝓝 (as_of name measured) sheet = too_high sheet || too_high (ca
 sheet_too_high 𝓝 (total name from to) sheet = too_high sheet || too_high (card_tree 𝓝 (𝓝.named (name_of name)) sheet)
 sheet_too_high 𝓝 (next_name given) sheet = too_high sheet
 
-abbrev pub declined : {K : Type 0} → Names K → Shown → Call → Option Refusal
-declined 𝓝 s opens =
+-- what is found on the line of a handle
+pub record Findings : Type 0 where
+  -- the recorded instant is not after the last stage
+  pub settled : Handle → ℕ → Bool
+  -- in the sitting, a reading stands for the name's bytes at the measured instant
+  pub there : Handle → List ℕ → ℕ → Bool
+
+-- the table: the first condition that holds, by what is found on the lines
+abbrev pub refusal_by : {K : Type 0} → Names K → Findings → Shown → Call → Option Refusal
+refusal_by 𝓝 found s opens =
     first_of ((no_place s, LinesExhausted) ∷ (no_serial s, SerialsExhausted) ∷ [])
-declined 𝓝 s (branches handle) =
+refusal_by 𝓝 found s (branches handle) =
     first_of ((not (is_resting (at s handle)), NoSuchLine) ∷ (no_place s, LinesExhausted) ∷ (no_serial s, SerialsExhausted) ∷ [])
-declined 𝓝 s (begins handle recorded) =
-    let stages = (stages_at (at s handle)).tree in
+refusal_by 𝓝 found s (begins handle recorded) =
     first_of (
     (not (is_resting (at s handle)), NoSuchLine) ∷
-    (not_after recorded (last_of (stages_of 𝓝 stages)), NotLater) ∷
-    (too_high stages, TreeTooHigh) ∷
+    (found.settled handle recorded, NotLater) ∷
+    (too_high (stages_at (at s handle)).tree, TreeTooHigh) ∷
     [])
-declined 𝓝 s (enters handle bytes measured change) =
+refusal_by 𝓝 found s (enters handle bytes measured change) =
     let sheet = (sheet_at (at s handle)).tree in
-    let name = 𝓝.named (name_of bytes) in
-    let there = read_at 𝓝 name measured (sheet_of 𝓝 sheet) in
+    let there = found.there handle bytes measured in
     first_of (
     (not (is_sitting (at s handle)), NoSuchLine) ∷
     (not (is_name bytes), NameBroken) ∷
     (out_of_range change, ReadingOutOfRange) ∷
     (nat_lt (recorded_at (at s handle)) measured, MeasuredLater) ∷
-    (too_high sheet || too_high (card_tree 𝓝 name sheet), TreeTooHigh) ∷
+    (too_high sheet || too_high (card_tree 𝓝 (𝓝.named (name_of bytes)) sheet), TreeTooHigh) ∷
     (occupied change there, ReadingThere) ∷
     (lacking change there, NoReading) ∷
     (too_few s, NodesShort) ∷
     [])
-declined 𝓝 s (commits handle) =
+refusal_by 𝓝 found s (commits handle) =
     first_of (
     (not (is_sitting (at s handle)), NoSuchLine) ∷
     (too_high (stages_at (at s handle)).tree, TreeTooHigh) ∷
     (too_few s, NodesShort) ∷
     [])
-declined 𝓝 s (abandons handle) = first_of ((not (is_sitting (at s handle)), NoSuchLine) ∷ [])
-declined 𝓝 s (stows handle letter) =
+refusal_by 𝓝 found s (abandons handle) = first_of ((not (is_sitting (at s handle)), NoSuchLine) ∷ [])
+refusal_by 𝓝 found s (stows handle letter) =
     first_of (
     (not (is_resting (at s handle)), NoSuchLine) ∷
     (not (is_letter letter), NotAShelf) ∷
     (is_some (lowest (is_stowed letter) s.places), ShelfTaken) ∷
     [])
-declined 𝓝 s (fetches letter) =
+refusal_by 𝓝 found s (fetches letter) =
     first_of (
     (not (is_letter letter), NotAShelf) ∷
     (not (is_some (lowest (is_stowed letter) s.places)), ShelfEmpty) ∷
     [])
-declined 𝓝 s (retires handle) = first_of ((not (is_resting (at s handle)), NoSuchLine) ∷ [])
-declined 𝓝 s tallies = None
-declined 𝓝 s (asks handle recorded question) =
+refusal_by 𝓝 found s (retires handle) = first_of ((not (is_resting (at s handle)), NoSuchLine) ∷ [])
+refusal_by 𝓝 found s tallies = None
+refusal_by 𝓝 found s (asks handle recorded question) =
     let stages = (stages_at (at s handle)).tree in
     first_of (
     (not (is_resting (at s handle)), NoSuchLine) ∷
@@ -123,3 +129,14 @@ declined 𝓝 s (asks handle recorded question) =
     (too_high stages || sheet_too_high 𝓝 question (sheet_tree_as_of recorded stages), TreeTooHigh) ∷
     (crossed question, EndsCrossed) ∷
     [])
+
+-- what the trees of the lines say
+abbrev pub by_trees : {K : Type 0} → Names K → Shown → Findings
+by_trees 𝓝 s =
+    record {
+      settled = λ handle recorded. not_after recorded (last_of (stages_of 𝓝 (stages_at (at s handle)).tree));
+      there = λ handle bytes measured. read_at 𝓝 (𝓝.named (name_of bytes)) measured (sheet_of 𝓝 (sheet_at (at s handle)).tree);
+    }
+
+abbrev pub declined : {K : Type 0} → Names K → Shown → Call → Option Refusal
+declined 𝓝 s call = refusal_by 𝓝 (by_trees 𝓝 s) s call

@@ -8,11 +8,11 @@ use Rattle.pool.specs.declared.node.Node.{Node}
 use Rattle.pool.specs.declared.pool.Pool.{Pool}
 use Rattle.tree.specs.Shape.{height}
 use Rattle.std.specs.List.{AllByRecursion}
-use Rattle.register.specs.Answering.{Answers, Branched, SettledAt, is_answer, leaves_nodes}
+use Rattle.register.specs.Answering.{Answers, Branched, is_answer, is_settled, leaves_nodes}
 use Rattle.register.specs.Calls.{Answer, Call, Handle, Question, abandons, asks, begins, branches, commits, counted, done, enters, fetches, found, handed, named, opens, refused, retires, stows, tallies, totalled}
 use Rattle.register.specs.Contents.{Names, card_tree}
-use Rattle.register.specs.Declined.{declined}
-use Rattle.register.specs.Histories.{told_by}
+use Rattle.register.specs.Due.{due}
+use Rattle.register.specs.Histories.{Histories, told_by}
 use Rattle.register.specs.History.{History, known_at}
 use Rattle.register.specs.Places.{is_resting, owners_of, record_of, sheet_at, stages_at}
 use Rattle.register.specs.Shown.{Shown, Shows, at, newly_made}
@@ -39,9 +39,12 @@ abbrev pub pool_after : Pool → List Turn → Pool
 pool_after made [] = made
 pool_after made (t ∷ ts) = pool_after t.pool ts
 
--- the history of a line after these turns
+-- what these turns tell of each line, and its history after them
+abbrev pub told_after : List Turn → Histories
+told_after turns = told_by (map call_with_answer turns)
+
 abbrev pub history_after : List Turn → Handle → History
-history_after turns handle = (told_by (map call_with_answer turns) handle).stages
+history_after turns handle = (told_after turns handle).stages
 
 -- ---- what is counted
 
@@ -143,8 +146,9 @@ pub record Law {K : Type 0} (𝓝 : Names K) (made : Pool) (start : Shown) (turn
       → t.after.used ≤ (shown_after start front).used + is_done t.answer * growth 𝓝 (shown_after start front) t.call
   -- where as many lines were ended as were started, all nodes are free
   pub given_back : (front back : List Turn) → turns ≡ front ++ back → ended front ≡ started front → (shown_after start front).used ≡ 0
-  -- a refusal comes exactly where its condition holds and none before it in the table, and changes nothing
-  pub refusals : (front back : List Turn) (t : Turn) → turns ≡ front ++ t ∷ back → Refuses (declined 𝓝 (shown_after start front) t.call) (shown_after start front) t
+  -- a refusal comes exactly where its condition holds by the histories of the lines and none before it in the table, and changes nothing
+  pub refusals : (front back : List Turn) (t : Turn) → turns ≡ front ++ t ∷ back
+      → Refuses (due 𝓝 (told_after front) (shown_after start front) t.call) (shown_after start front) t
   -- a refusal leaves every node as it was, and so does a question
   pub unchanged : (front back : List Turn) (t : Turn) → turns ≡ front ++ t ∷ back → leaves_nodes t.call t.answer ≡ true → t.pool ≡ pool_after made front
   -- every answer as of a recorded instant is the model's, over the line's history
@@ -152,7 +156,7 @@ pub record Law {K : Type 0} (𝓝 : Names K) (made : Pool) (start : Shown) (turn
       → Answers 𝓝 (known_at recorded (history_after front g)) q t.answer
   -- an answer as of an instant that is not after the line's last stage is given again, by the line and by every line branched from it later
   pub fixed : (front between back : List Turn) (t t' : Turn) → turns ≡ front ++ t ∷ (between ++ t' ∷ back) → (g h : Handle) (recorded : ℕ) (q : Question)
-      → t.call ≡ asks g recorded q → is_answer t.answer ≡ true → SettledAt recorded (history_after front g)
+      → t.call ≡ asks g recorded q → is_answer t.answer ≡ true → is_settled recorded (history_after front g) ≡ true
       → t'.call ≡ asks h recorded q → Branched (map call_with_answer between) g h → is_resting (at (shown_after start (front ++ t ∷ between)) h) ≡ true
       → t'.answer ≡ t.answer
 

@@ -20,7 +20,9 @@ pub mod Registers
 pub mod Plain
 pub mod Histories
 pub mod Answering
+pub mod Due
 pub mod Law
 pub mod Runs
 pub mod Shelves
+pub mod WorkedScript
 pub mod Worked

@@ -1,7 +1,6 @@
 -- What the calls and answers of the code stand for.
 use Rattle.std.specs.Prelude.{Some, None, Ok, Err, Result}
 use Rattle.std.specs.Option.{option_map}
-use Rattle.kinds.specs.Packed.{bytes_of}
 use Rattle.register.specs.Calls.{Answer, Call, abandons, as_of, asks, begins, branches, commits, counted, done, enters, fetches, found, handed, named, next_name, opens, refused, retires, stows, tallies, total, totalled}
 use Rattle.register.specs.declared.refusal.Refusal.{Refusal}
 use Rattle.register.specs.declared.run.Action.{Action}
@@ -41,7 +40,7 @@ reply_of (Handed handle) = handed handle
 reply_of (Counted tally) = counted tally
 reply_of (Found reading) = found (option_map (λ x. (x.0.seconds, x.1.microhertz)) reading)
 reply_of (Totalled sum) = totalled sum.count sum.sum
-reply_of (Named name) = named (option_map bytes_of name)
+reply_of (Named name) = named name
 
 abbrev pub CodeAnswer : Type 0
 CodeAnswer = Result Reply Refusal

@@ -2,7 +2,7 @@
 -- Which node a tree has, what shape, and how far trees share nodes are left free within these facts.
 use Rattle.std.specs.Prelude.{◌≡◌, ℕ, ◌+◌, ◌*◌, ◌≤◌, List, [], ◌∷◌, ◌++◌, Some, None, Option, slice_index_or}
 use Rattle.std.specs.Option.{option_map, unwrap_or}
-use Rattle.kinds.specs.Packed.{bytes_of, name_of}
+use Rattle.kinds.specs.Packed.{name_of}
 use Rattle.pool.specs.Held.{Held}
 use Rattle.tree.specs.Shape.{height}
 use Rattle.register.specs.Asked.{count_within, key_of, last_up_to, next_name as next, sheet_as_of, sum_within}
@@ -59,7 +59,7 @@ module _ {K : Type 0} (𝓝 : Names K) (s : Shown) where
   answer_to (as_of name measured) sheet = found (last_up_to measured (card_at 𝓝 (key_of 𝓝 name) sheet))
   answer_to (total name from to) sheet =
       totalled (count_within from to (card_at 𝓝 (key_of 𝓝 name) sheet)) (sum_within from to (card_at 𝓝 (key_of 𝓝 name) sheet))
-  answer_to (next_name given) sheet = named (option_map (λ key. bytes_of (𝓝.name key)) (next 𝓝 (option_map (key_of 𝓝) given) sheet))
+  answer_to (next_name given) sheet = named (option_map 𝓝.name (next 𝓝 (option_map (key_of 𝓝) given) sheet))
 
   -- what an accepted call does
   abbrev pub Accepted : Call → Answer → Shown → Type 0

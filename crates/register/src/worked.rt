@@ -1,4 +1,4 @@
-//! Small histories, registers and trees worked by hand.
+//! A script, small registers and small trees, worked by hand.
 
 ghost use Rattle.register.specs.Worked.{WorkedExamples};
 

@@ -1,6 +1,5 @@
 use Rattle.std.proofs.Common.{not, Some, ap, ◌∙◌}
 use Rattle.std.specs.Option.{option_map}
-use Rattle.kinds.specs.Packed.{bytes_of}
 use Rattle.register.proofs.Keeping.{the_places}
 use Rattle.register.proofs.Looked.{next-named}
 use Rattle.register.proofs.NextName.{answered, no_line, no_name, sheet-in-order, sheet-ready, sheet-there, too-high}
@@ -53,4 +52,4 @@ returns g c = λ s shows.
     let self = c.args.self.now in
     let there = sheet-there (names g.N.Key.words g.N.Key.key g.N.Ord.cmp g.N.NameOrder.named g.N.NameOrder.name) (pool_of self) self.table.lines self.next s shows (line_handle c.args.line.now) c.args.recorded (Some c.args.name.now) c.in_ok-root.root (c.in_ok-root.ensures.told s shows) (ap not (name-passes c.args.name.now c.in_ok-name.ensures.0)) c.ranges.recorded.fits c.from.result c.from.ensures c.in_ok-sheet.sheet c.in_ok-sheet.ensures in
     answered (names g.N.Key.words g.N.Key.key g.N.Ord.cmp g.N.NameOrder.named g.N.NameOrder.name) (pool_of self) self.table.lines self.next s shows (line_handle c.args.line.now) c.args.recorded (Some c.args.name.now) c.in_ok-root.root (c.in_ok-root.ensures.told s shows) (ap not (name-passes c.args.name.now c.in_ok-name.ensures.0)) c.ranges.recorded.fits c.from.result c.from.ensures c.in_ok-sheet.sheet c.in_ok-sheet.ensures _ (next-named (names g.N.Key.words g.N.Key.key g.N.Ord.cmp g.N.NameOrder.named g.N.NameOrder.name) c.from_name.result (sheet_up_to c.from.result (stages_at (at s (line_handle c.args.line.now))).tree) c.first_after.result (c.first_after.ensures _ there (sheet-in-order (names g.N.Key.words g.N.Key.key g.N.Ord.cmp g.N.NameOrder.named g.N.NameOrder.name) (pool_of self) self.table.lines self.next s shows (line_handle c.args.line.now) c.args.recorded (Some c.args.name.now) c.in_ok-root.root (c.in_ok-root.ensures.told s shows) (ap not (name-passes c.args.name.now c.in_ok-name.ensures.0)) c.ranges.recorded.fits c.from.result c.from.ensures c.in_ok-sheet.sheet c.in_ok-sheet.ensures))
-    ∙ ap (λ (k : g.row.N.Denot). option_map (λ (key : g.row.N.Denot). bytes_of (g.N.NameOrder.name key)) (next (names g.N.Key.words g.N.Key.key g.N.Ord.cmp g.N.NameOrder.named g.N.NameOrder.name) (Some k) (sheet_of (names g.N.Key.words g.N.Key.key g.N.Ord.cmp g.N.NameOrder.named g.N.NameOrder.name) (sheet_up_to c.from.result (stages_at (at s (line_handle c.args.line.now))).tree)))) (c.from_name.ensures ∙ ap g.N.NameOrder.named c.in_ok-name.ensures.1))
+    ∙ ap (λ (k : g.row.N.Denot). option_map g.N.NameOrder.name (next (names g.N.Key.words g.N.Key.key g.N.Ord.cmp g.N.NameOrder.named g.N.NameOrder.name) (Some k) (sheet_of (names g.N.Key.words g.N.Key.key g.N.Ord.cmp g.N.NameOrder.named g.N.NameOrder.name) (sheet_up_to c.from.result (stages_at (at s (line_handle c.args.line.now))).tree)))) (c.from_name.ensures ∙ ap g.N.NameOrder.named c.in_ok-name.ensures.1))
