@@ -11,7 +11,7 @@ use Rattle.register.specs.Calls as call
 use Rattle.register.specs.Calls.{Call, done, handed, refused}
 use Rattle.register.specs.declared.handle.Parts.{Parts as Handle}
 use Rattle.register.specs.Places.{live_in}
-use Rattle.register.specs.Runs.{Runs}
+use Rattle.register.specs.Runs.{Moment, Runs}
 use Rattle.register.specs.Shelves.{Bare, Single, laid_in}
 use Rattle.register.specs.Shown.{Shown}
 use Rattle.register.specs.Tables.{is_letter}
@@ -68,39 +68,39 @@ balance _ _ _ _ _ (does.committed seat) = refl
 balance _ _ _ _ _ (does.commit_refused seat why) = refl
 balance _ _ _ _ _ (does.abandoned seat) = refl
 
-pub runs-laid : (seat seat' : Option Seat) (request : Request) (calls : List (Call × call.Answer)) (answer : Answer) (s s' : Shown) → Does seat request calls answer seat'
-    → Runs forward s calls s' → live_in s.places ≡ laid_in s.places + seats seat → live_in s'.places ≡ laid_in s'.places + seats seat'
-runs-laid seat seat' request calls answer s s' does runs laid = omega (arith, balance seat seat' request calls answer does, runs_hands forward s s' calls runs, laid)
+pub runs-laid : (seat seat' : Option Seat) (request : Request) (calls : List (Call × call.Answer)) (answer : Answer) (m m' : Moment) → Does seat request calls answer seat'
+    → Runs forward m calls m' → live_in m.shown.places ≡ laid_in m.shown.places + seats seat → live_in m'.shown.places ≡ laid_in m'.shown.places + seats seat'
+runs-laid seat seat' request calls answer m m' does runs laid = omega (arith, balance seat seat' request calls answer does, runs_hands forward m m' calls runs, laid)
 
 pub carried-laid : (s s' : Standing) (request : Request) (answer : Answer) → Carried s request answer s' → AllLaid s → AllLaid s'
-carried-laid s s' request answer c laid = runs-laid s.seat s'.seat request c.calls answer s.shown s'.shown c.does c.runs laid
+carried-laid s s' request answer c laid = runs-laid s.seat s'.seat request c.calls answer s.now s'.now c.does c.runs laid
 
 -- ---- clearing the shelves
 
-pub single-runs : (calls : List (Call × call.Answer)) (s s' : Shown) → Runs forward s calls s' → Single s.places → Single s'.places
-single-runs calls s s' runs single = runs_keep forward (λ t. Single t.places) (moves.single-kept forward) s s' calls runs single
+pub single-runs : (calls : List (Call × call.Answer)) (m m' : Moment) → Runs forward m calls m' → Single m.shown.places → Single m'.shown.places
+single-runs calls m m' runs single = runs_keep forward (λ t. Single t.places) (moves.single-kept forward) m m' calls runs single
 
 -- a bare shelf stays bare while another is cleared, and the one that is cleared is bare then
-module _ (shelf : ℕ) (s s' : Shown) where
-  bare-kept : (calls : List (Call × call.Answer)) → Clears shelf calls → Runs forward s calls s' → (letter : ℕ) → Bare s.places letter → Bare s'.places letter
+module _ (shelf : ℕ) (m m' : Moment) where
+  bare-kept : (calls : List (Call × call.Answer)) → Clears shelf calls → Runs forward m calls m' → (letter : ℕ) → Bare m.shown.places letter → Bare m'.shown.places letter
   bare-kept _ (clear line) runs letter bare =
-      let (t, step₁, rest) = runs_first forward s s' (call.fetches shelf, handed line) ((call.retires line, done) ∷ []) runs in
-      let (u, step₂, over) = runs_first forward t s' (call.retires line, done) [] rest in
-      subst (λ (z : Shown). Bare z.places letter) (runs_over forward u s' over)
-      (moves.bare-kept forward t u (call.retires line) done refl step₂ letter (moves.bare-kept forward s t (call.fetches shelf) (handed line) refl step₁ letter bare))
+      let (t, step₁, rest) = runs_first forward m m' (call.fetches shelf, handed line) ((call.retires line, done) ∷ []) runs in
+      let (u, step₂, over) = runs_first forward t m' (call.retires line, done) [] rest in
+      subst (λ (z : Shown). Bare z.places letter) (runs_over forward u m' over)
+      (moves.bare-kept forward t.shown u.shown (call.retires line) done refl step₂ letter (moves.bare-kept forward m.shown t.shown (call.fetches shelf) (handed line) refl step₁ letter bare))
   bare-kept _ (empty why) runs letter bare =
-      let (t, step, over) = runs_first forward s s' (call.fetches shelf, refused why) [] runs in
-      subst (λ (z : Shown). Bare z.places letter) (runs_over forward t s' over) (moves.bare-kept forward s t (call.fetches shelf) (refused why) refl step letter bare)
+      let (t, step, over) = runs_first forward m m' (call.fetches shelf, refused why) [] runs in
+      subst (λ (z : Shown). Bare z.places letter) (runs_over forward t m' over) (moves.bare-kept forward m.shown t.shown (call.fetches shelf) (refused why) refl step letter bare)
 
-  bare-then : (calls : List (Call × call.Answer)) → Clears shelf calls → Runs forward s calls s' → is_letter shelf ≡ true → Single s.places → Bare s'.places shelf
+  bare-then : (calls : List (Call × call.Answer)) → Clears shelf calls → Runs forward m calls m' → is_letter shelf ≡ true → Single m.shown.places → Bare m'.shown.places shelf
   bare-then _ (clear line) runs is single =
-      let (t, step₁, rest) = runs_first forward s s' (call.fetches shelf, handed line) ((call.retires line, done) ∷ []) runs in
-      let (u, step₂, over) = runs_first forward t s' (call.retires line, done) [] rest in
-      subst (λ (z : Shown). Bare z.places shelf) (runs_over forward u s' over)
-      (moves.bare-kept forward t u (call.retires line) done refl step₂ shelf (moves.fetched forward s t shelf line single step₁).bare)
+      let (t, step₁, rest) = runs_first forward m m' (call.fetches shelf, handed line) ((call.retires line, done) ∷ []) runs in
+      let (u, step₂, over) = runs_first forward t m' (call.retires line, done) [] rest in
+      subst (λ (z : Shown). Bare z.places shelf) (runs_over forward u m' over)
+      (moves.bare-kept forward t.shown u.shown (call.retires line) done refl step₂ shelf (moves.fetched forward m.shown t.shown shelf line single step₁).bare)
   bare-then _ (empty why) runs is single =
-      let (t, step, over) = runs_first forward s s' (call.fetches shelf, refused why) [] runs in
-      subst (λ (z : Shown). Bare z.places shelf) (runs_over forward t s' over) (moves.unfetched forward s t shelf why is step)
+      let (t, step, over) = runs_first forward m m' (call.fetches shelf, refused why) [] runs in
+      subst (λ (z : Shown). Bare z.places shelf) (runs_over forward t m' over) (moves.unfetched forward m.shown t.shown shelf why is step)
 
 letter-is : (k : ℕ) → k < 26 → is_letter (65 + k) ≡ true
 letter-is k h = grind (arith, nat_tests)
@@ -109,24 +109,24 @@ letter-from : (letter : ℕ) → is_letter letter ≡ true → (65 ≤ letter) �
 letter-from letter is = (grind (arith, nat_tests), grind (arith, nat_tests))
 
 -- the first shelves are bare once they are cleared
-all-bare : (n : ℕ) (s s' : Shown) → n ≤ 26 → Single s.places → Cleared n s s' → Single s'.places × ((k : ℕ) → k < n → Bare s'.places (65 + k))
+all-bare : (n : ℕ) (m m' : Moment) → n ≤ 26 → Single m.shown.places → Cleared n m m' → Single m'.shown.places × ((k : ℕ) → k < n → Bare m'.shown.places (65 + k))
 unfolding Cleared
-all-bare zero s s' few single e = (subst (λ (z : Shown). Single z.places) e single, λ k h. absurd (omega arith))
-all-bare (suc n) s s' few single (t, cleared, (calls, clears, runs)) =
-    let (single_t, bare) = all-bare n s t (omega arith) single cleared in (
-      single-runs calls t s' runs single_t,
+all-bare zero m m' few single e = (subst (λ (z : Moment). Single z.shown.places) e single, λ k h. absurd (omega arith))
+all-bare (suc n) m m' few single (t, cleared, (calls, clears, runs)) =
+    let (single_t, bare) = all-bare n m t (omega arith) single cleared in (
+      single-runs calls t m' runs single_t,
       λ k h.
           elim (cases_eq k n) [
-            | inl e ↦ subst (λ (m : ℕ). Bare s'.places (65 + m)) (sym e) (bare-then (65 + n) t s' calls clears runs (letter-is n (omega arith)) single_t)
-            | inr apart ↦ bare-kept (65 + n) t s' calls clears runs (65 + k) (bare k (omega arith))
+            | inl e ↦ subst (λ (i : ℕ). Bare m'.shown.places (65 + i)) (sym e) (bare-then (65 + n) t m' calls clears runs (letter-is n (omega arith)) single_t)
+            | inr apart ↦ bare-kept (65 + n) t m' calls clears runs (65 + k) (bare k (omega arith))
           ],
     )
 
-pub cleared-unused : (s s' : Shown) → Single s.places → Cleared 26 s s' → Seen forward s' → live_in s'.places ≡ laid_in s'.places + 0 → s'.used ≡ 0
-cleared-unused s s' single cleared seen laid =
-    let (single', bare) = all-bare 26 s s' (omega arith) single cleared in
-    unused forward s' seen (omega (arith, laid))
+pub cleared-unused : (m m' : Moment) → Single m.shown.places → Cleared 26 m m' → Seen forward m'.shown → live_in m'.shown.places ≡ laid_in m'.shown.places + 0 → m'.shown.used ≡ 0
+cleared-unused m m' single cleared seen laid =
+    let (single', bare) = all-bare 26 m m' (omega arith) single cleared in
+    unused forward m'.shown seen (omega (arith, laid))
     (λ letter is.
     let (from, to) = letter-from letter is in
     let same : 65 + (letter - 65) ≡ letter = omega (arith, from) in
-    subst (Bare s'.places) same (bare (letter - 65) (omega (arith, from, to))))
+    subst (Bare m'.shown.places) same (bare (letter - 65) (omega (arith, from, to))))

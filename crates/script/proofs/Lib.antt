@@ -9,3 +9,5 @@ mod Carrying
 mod Placing
 mod Turning
 mod Starting
+mod Order
+mod Whole

@@ -11,7 +11,7 @@ use Rattle.script.specs.Lines.{lines_of, on_first}
 use Rattle.script.specs.Reports.{Writes, end_fits, end_cut, line_empty, line_fits, line_cut, answer_line, end_line, refusals}
 use Rattle.script.specs.Scripts.{Along, Finished, RanLine, RanLines}
 use Rattle.script.specs.Answers.{Answer}
-use Rattle.script.specs.declared.runner.Runner.{Runner}
+use Rattle.script.specs.declared.runner.Progress.{Progress}
 
 -- a report's text is as long as its cursor says
 text-length : (r : Report) → length (text r) ≡ used r
@@ -106,20 +106,20 @@ module _ {S : Type 0} (Answered : S → List (List ℕ) → Answer → S → Typ
       turn-cut cut = along-cut start script before after same-room line behind lines refused refused' s s' some here r cut carried-out
 
   -- the lines were run up to one whose report line did not fit
-  pub lines-cut : (start s : S) (script : List ℕ) (runner : Runner) (report : Report) (r : Result (Unit {0}) Full) → is_err r ≡ true
-      → ((nodes : ℕ) → Ended s nodes → Writes Answered Ended (capacity report) 0 0 start (lines_of script) (text report) false) → RanLines Answered Ended start script r runner s report
-  lines-cut start s script runner report (Ok _) cut wrote = absurd (let z : ◌≡◌ {A = ℕ} 0 1 = cc in omega arith)
-  lines-cut start s script runner report (Err full) cut wrote = wrote
+  pub lines-cut : (start s : S) (script : List ℕ) (progress : Progress) (report : Report) (r : Result (Unit {0}) Full) → is_err r ≡ true
+      → ((nodes : ℕ) → Ended s nodes → Writes Answered Ended (capacity report) 0 0 start (lines_of script) (text report) false) → RanLines Answered Ended start script r progress s report
+  lines-cut start s script progress report (Ok _) cut wrote = absurd (let z : ◌≡◌ {A = ℕ} 0 1 = cc in omega arith)
+  lines-cut start s script progress report (Err full) cut wrote = wrote
 
   -- the end of a run: a line before the end line did not fit; the end line fits, or it does not
-  module _ (start s : S) (script : List ℕ) (nodes : ℕ) (ended : Ended s nodes) (runner : Runner) (before : Report) where
-    pub finished-cut : (full : Full) → RanLines Answered Ended start script (Err full) runner s before → Finished Answered Ended start script (Err full) before
+  module _ (start s : S) (script : List ℕ) (nodes : ℕ) (ended : Ended s nodes) (progress : Progress) (before : Report) where
+    pub finished-cut : (full : Full) → RanLines Answered Ended start script (Err full) progress s before → Finished Answered Ended start script (Err full) before
     finished-cut full on = on nodes ended
 
-    module _ (value : Unit {0}) (on : RanLines Answered Ended start script (Ok value) runner s before) (after : Report) (same-room : capacity after ≡ capacity before)
-        (all declined in_use : Piece) (p : all ≡ Number (pos runner.lines)) (q : declined ≡ Number (pos runner.refused)) (r : in_use ≡ Number (pos nodes)) where
+    module _ (value : Unit {0}) (on : RanLines Answered Ended start script (Ok value) progress s before) (after : Report) (same-room : capacity after ≡ capacity before)
+        (all declined in_use : Piece) (p : all ≡ Number (pos progress.lines)) (q : declined ≡ Number (pos progress.refused)) (r : in_use ≡ Number (pos nodes)) where
       abbrev last : List ℕ
-      last = end_line runner.lines runner.refused nodes
+      last = end_line progress.lines progress.refused nodes
 
       as_written : line_text (End ∷ all ∷ declined ∷ in_use ∷ []) ≡ last
       as_written = rw (p, q, r)
@@ -128,8 +128,8 @@ module _ {S : Type 0} (Answered : S → List (List ℕ) → Answer → S → Typ
           → Finished Answered Ended start script result after
       finished-end (Ok _) added =
           let longer : LineAdded before last after = rw as_written at added in
-          let wrote : Writes Answered Ended (capacity before) 0 0 start (lines_of script) (text before ++ last) true = on last true (end_fits (capacity before - length (text before)) runner.lines runner.refused s nodes ended (line-room before after last longer)) in
+          let wrote : Writes Answered Ended (capacity before) 0 0 start (lines_of script) (text before ++ last) true = on last true (end_fits (capacity before - length (text before)) progress.lines progress.refused s nodes ended (line-room before after last longer)) in
           rw (same-room, longer.appended) wrote
       finished-end (Err full) refused =
           let same : LineRefused before last after = rw as_written at refused in
-          written-no-more start script before after same-room last same (on [] false (end_cut (capacity before - length (text before)) runner.lines runner.refused s nodes ended (line-lacks before after last same)))
+          written-no-more start script before after same-room last same (on [] false (end_cut (capacity before - length (text before)) progress.lines progress.refused s nodes ended (line-lacks before after last same)))

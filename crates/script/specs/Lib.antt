@@ -8,3 +8,4 @@ pub mod Runs
 pub mod Standings
 pub mod Reports
 pub mod Scripts
+pub mod Whole

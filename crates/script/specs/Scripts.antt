@@ -8,7 +8,7 @@ use Rattle.report.specs.declared.report.Report.{Report}
 use Rattle.script.specs.Lines.{lines_of}
 use Rattle.script.specs.Reports.{Writes, answer_line, refusals}
 use Rattle.script.specs.Answers.{Answer}
-use Rattle.script.specs.declared.runner.Runner.{Runner}
+use Rattle.script.specs.declared.runner.Progress.{Progress}
 use Rattle.script.specs.declared.runner.Stopped.{Stopped}
 
 -- how a run ends: with the report's length, and with a refusal where a line did not fit
@@ -37,10 +37,10 @@ module _ {S : Type 0} (Answered : S → List (List ℕ) → Answer → S → Typ
       → Writes Answered Ended room 0 0 start (lines_of script) (text ++ later) whole
 
   -- All lines were carried out, and the end line is to come; or a report line did not fit.
-  abbrev pub RanLines : (start : S) (script : List ℕ) → Result (Unit {0}) Full → Runner → S → Report → Type 0
-  RanLines start script r runner s report =
+  abbrev pub RanLines : (start : S) (script : List ℕ) → Result (Unit {0}) Full → Progress → S → Report → Type 0
+  RanLines start script r progress s report =
       MatchResult r
-      (λ _. Along (capacity report) start script (text report) runner.lines runner.refused s [])
+      (λ _. Along (capacity report) start script (text report) progress.lines progress.refused s [])
       (λ _. (nodes : ℕ) → Ended s nodes → Writes Answered Ended (capacity report) 0 0 start (lines_of script) (text report) false)
 
   -- The report is finished: its text is what the run writes, and the answer says whether the whole of it fits.

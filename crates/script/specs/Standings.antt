@@ -7,8 +7,8 @@ use Rattle.register.specs.Calls as call
 use Rattle.register.specs.Calls.{Call, sitting_handle}
 use Rattle.register.specs.declared.handle.Parts.{Parts as Handle}
 use Rattle.register.specs.Places.{is_resting, is_sitting, live_in}
-use Rattle.register.specs.Registers.{ShownBy}
-use Rattle.register.specs.Runs.{Runs}
+use Rattle.register.specs.Registers.{ShownBy, pool_of}
+use Rattle.register.specs.Runs.{Moment, Runs}
 use Rattle.register.specs.Shelves.{Bare, Single, laid_in}
 use Rattle.register.specs.Shown.{Shown, at}
 use Rattle.register.specs.Tables.{is_letter}
@@ -24,8 +24,12 @@ use Rattle.script.specs.declared.sitting.OpenSitting.{OpenSitting}
 abbrev pub seat_of : OpenSitting → Seat
 seat_of seat = record { handle = sitting_handle seat.sitting; shelf = seat.shelf }
 
-abbrev pub standing : Shown → Option OpenSitting → Standing
-standing s seat = record { shown = s; seat = option_map seat_of seat }
+-- a register that shows this
+abbrev pub moment : Register Name → Shown → Moment
+moment r s = record { pool = pool_of r; shown = s }
+
+abbrev pub standing : Register Name → Shown → Option OpenSitting → Standing
+standing r s seat = record { now = moment r s; seat = option_map seat_of seat }
 
 -- the handle is that of a sitting, and the shelf of its line is bare
 pub record Seated (s : Shown) (seat : Seat) : Type 0 where
@@ -44,14 +48,14 @@ seats (Some seat) = 1
 
 -- all live lines lie on shelves, but for that of the open sitting
 abbrev pub AllLaid : Standing → Type 0
-AllLaid s = live_in s.shown.places ≡ laid_in s.shown.places + seats s.seat
+AllLaid s = live_in s.now.shown.places ≡ laid_in s.now.shown.places + seats s.seat
 
 -- the register shows the state, at most one line lies on each shelf, the open sitting is seated, and all other lines lie on shelves
 pub record Stands (r : Register Name) (seat : Option OpenSitting) (s : Shown) : Type 0 where
   pub shows : ShownBy forward r s
   pub single : Single s.places
   pub seated : SeatedIn s (option_map seat_of seat)
-  pub laid : AllLaid (standing s seat)
+  pub laid : AllLaid (standing r s seat)
 
 -- the sitting that a beginning opens, and the one that a refused commit leaves open
 abbrev pub begun_by : Result OpenSitting Refusal → Option OpenSitting
@@ -70,11 +74,11 @@ abbrev pub Ready : Register Name → Option OpenSitting → Type 0
 Ready r seat = (s : Shown) × Stands r seat s
 
 abbrev pub Leads : Register Name → Option OpenSitting → Register Name → Option OpenSitting → (Standing → Standing → Type 0) → Type 0
-Leads r seat r' seat' Relation = (s : Shown) → Stands r seat s → (s' : Shown) × Stands r' seat' s' × Relation (standing s seat) (standing s' seat')
+Leads r seat r' seat' Relation = (s : Shown) → Stands r seat s → (s' : Shown) × Stands r' seat' s' × Relation (standing r s seat) (standing r' s' seat')
 
 -- whatever r shows, these calls with these answers lead from there to what r' shows
 abbrev pub RunsBy : Register Name → List (Call × call.Answer) → Register Name → Type 0
-RunsBy r calls r' = (s : Shown) → ShownBy forward r s → (s' : Shown) × ShownBy forward r' s' × Runs forward s calls s'
+RunsBy r calls r' = (s : Shown) → ShownBy forward r s → (s' : Shown) × ShownBy forward r' s' × Runs forward (moment r s) calls (moment r' s')
 
 -- the line is at rest; it is in a sitting
 abbrev pub Resting : Register Name → Handle → Type 0

@@ -1,16 +1,18 @@
 //! Runs a script in a register of its own.
 
-ghost use Rattle.std.specs.Prelude.{◌≡◌, ℕ, ◌<◌, ◌≤◌, min, List, length, drop, IfOk, Some, None, MatchResult};
-ghost use Rattle.register.specs.Registers.{ShownBy};
+ghost use Rattle.std.specs.Prelude.{◌≡◌, ℕ, ◌<◌, ◌≤◌, min, List, length, drop, take, IfOk, Some, None, MatchResult};
+ghost use Rattle.register.specs.Registers.{SameLoan, ShownBy};
+ghost use Rattle.register.specs.Runs.{Moment};
 ghost use Rattle.register.specs.Shown.{Shown};
 ghost use Rattle.register.specs.declared.refusal.Refusal.TheVariants.{ReportFull};
 ghost use Rattle.script.specs.Fields.{left};
 ghost use Rattle.report.specs.Report.{KeepsRoom, LineAdded, LineRefused, capacity, used};
 ghost use Rattle.script.specs.Commands.{requested};
 ghost use Rattle.script.specs.Reports.{answer_line, refusals};
-ghost use Rattle.script.specs.Runs.{Answered, Carried, Ended, Standing, beginning, forward};
-ghost use Rattle.script.specs.Standings.{Leads, Ready, Stands, standing};
-ghost use Rattle.script.specs.Scripts.{RanLine, RanLines, Finished, TooLong, Reported};
+ghost use Rattle.script.specs.Runs.{Answered, Carried, Ended, forward};
+ghost use Rattle.script.specs.Standings.{Leads, Ready, Stands, moment, standing};
+ghost use Rattle.script.specs.Scripts.{Finished, RanLine, RanLines, TooLong};
+ghost use Rattle.script.specs.Whole.{RanScript};
 
 use crate::answer::{Reply, answer_to, write_answer};
 use crate::command::{Command, read_command};
@@ -20,7 +22,7 @@ use crate::shelves::{as_of_on, branch_on, clear, open_on, retire_on, total_on};
 use crate::sitting::{OpenSitting, abandon_sitting, after_commit, begin_on, commit_sitting};
 use kinds::Name;
 use pool::Node;
-use register::{MOST_NODES, Refusal, Register};
+use register::{Refusal, Register};
 use report::{Full, Piece, Report};
 use thiserror::Error;
 
@@ -41,7 +43,8 @@ fn answer_outside(
     command: Command<'_>,
 ) -> (Result<Reply, Refusal>, Option<OpenSitting>)
     requires { Ready register.old None }
-    ensures { Leads register.old None register.new result.1 (λ s s'. Carried s (requested command.entry) result.0 s') }
+    ensures leads { Leads register.old None register.new result.1 (λ s s'. Carried s (requested command.entry) result.0 s') }
+    ensures lent { SameLoan register.old register.new }
 {
     match command {
         Command::Open { shelf } => (answer_to(open_on(register, shelf)), None),
@@ -76,7 +79,8 @@ fn answer_inside(
     command: Command<'_>,
 ) -> (Result<Reply, Refusal>, Option<OpenSitting>)
     requires { Ready register.old (Some seat) }
-    ensures { Leads register.old (Some seat) register.new result.1 (λ s s'. Carried s (requested command.entry) result.0 s') }
+    ensures leads { Leads register.old (Some seat) register.new result.1 (λ s s'. Carried s (requested command.entry) result.0 s') }
+    ensures lent { SameLoan register.old register.new }
 {
     match command {
         Command::Record {
@@ -115,7 +119,8 @@ fn answer(
     fields: Lexer<'_>,
 ) -> (Result<Reply, Refusal>, Option<OpenSitting>)
     requires { Ready register.old seat }
-    ensures { Leads register.old seat register.new result.1 (λ s s'. Answered s (left fields.entry) result.0 s') }
+    ensures leads { Leads register.old seat register.new result.1 (λ s s'. Answered s (left fields.entry) result.0 s') }
+    ensures lent { SameLoan register.old register.new }
 {
     match read_command(fields) {
         None => (Err(Refusal::Unreadable), seat),
@@ -129,7 +134,8 @@ fn answer(
 /// Abandons an open sitting, and retires the lines of all shelves.
 fn give_everything_up(register: &mut Register<'_, Name>, seat: Option<OpenSitting>)
     requires { Ready register.old seat }
-    ensures { Leads register.old seat register.new None (λ s s'. Ended s s'.shown.used) }
+    ensures leads { Leads register.old seat register.new None (λ s s'. Ended s'.now s s'.now.shown.used) }
+    ensures lent { SameLoan register.old register.new }
 {
     match seat {
         None => {}
@@ -145,31 +151,32 @@ fn nodes_in_use(register: &Register<'_, Name>) -> u32
     register.tally().in_use
 }
 
-/// A run of a script: its register, how many lines came so far, and how many of them were refused.
-/// The report is no field of it: with it as a field, a proof knows nothing of the lent bytes after a call.
-/// Nor is the open sitting: a handle is moved by each call that it is for, and nothing is moved out from behind a `&mut`.
-#[derive(Drop)]
-struct Runner<'n> {
-    register: Register<'n, Name>,
+/// How many lines of a script came so far, and how many of them were refused. The register and the report are no fields: with them as
+/// fields, a proof knows nothing of the lent memory after a call. Nor is the open sitting: a handle is moved by each call that it is
+/// for, and nothing is moved out from behind a `&mut`.
+#[derive(Clone, Copy, Default)]
+struct Progress {
     lines: u32,
     refused: u32,
 }
 
-impl Runner<'_> {
+impl Progress {
     /// Carries out the line of these fields, and reports it. Gives the sitting that is open then.
     fn run_line(
         &mut self,
+        register: &mut Register<'_, Name>,
         seat: Option<OpenSitting>,
         report: &mut Report<'_>,
         fields: Lexer<'_>,
     ) -> (Result<(), Full>, Option<OpenSitting>)
         requires few { self.old.refused < 32768 }
-        requires ready { Ready self.old.register seat }
+        requires ready { Ready register.old seat }
         ensures same { KeepsRoom report.old report.new }
         ensures counted { self.new.lines ≡ self.old.lines }
-        ensures ran { Leads self.old.register seat self.new.register result.1 (λ s s'. RanLine Answered self.old.lines (left fields.entry) result.0 s s' self.old.refused self.new.refused report.old report.new) }
+        ensures ran { Leads register.old seat register.new result.1 (λ s s'. RanLine Answered self.old.lines (left fields.entry) result.0 s s' self.old.refused self.new.refused report.old report.new) }
+        ensures lent { SameLoan register.old register.new }
     {
-        let (answer, seat) = answer(&mut self.register, seat, fields);
+        let (answer, seat) = answer(register, seat, fields);
         self.refused += u32::from(answer.is_err());
         (write_answer(report, self.lines, answer), seat)
     }
@@ -178,14 +185,16 @@ impl Runner<'_> {
     /// fit. Gives the sitting that is open then.
     fn run_lines(
         &mut self,
+        register: &mut Register<'_, Name>,
         report: &mut Report<'_>,
         script: &[u8],
     ) -> (Result<(), Full>, Option<OpenSitting>)
         requires short { length script.now ≤ 32768 }
         requires first { (self.old.lines ≡ 0) × (self.old.refused ≡ 0) }
-        requires ready { Ready self.old.register None }
+        requires ready { Ready register.old None }
         ensures same { KeepsRoom report.old report.new }
-        ensures ran { Leads self.old.register None self.new.register result.1 (λ s s'. used report.old ≡ 0 → RanLines Answered Ended s script.now result.0 self.new s' report.new) }
+        ensures ran { Leads register.old None register.new result.1 (λ s s'. used report.old ≡ 0 → (end : Moment) → RanLines Answered (Ended end) s script.now result.0 self.new s' report.new) }
+        ensures lent { SameLoan register.old register.new }
     {
         let mut seat = None;
         for line in ScriptLines::new(script) {
@@ -193,7 +202,12 @@ impl Runner<'_> {
             if line.is_empty() {
                 continue;
             }
-            let (ran, next) = self.run_line(seat, report, Lexer::new(line, 0, line.len()));
+            let (ran, next) = self.run_line(
+                register,
+                seat,
+                report,
+                Lexer::new(line, 0, line.len()),
+            );
             seat = next;
             if ran.is_err() {
                 return (ran, seat);
@@ -201,52 +215,35 @@ impl Runner<'_> {
         }
         (Ok(()), seat)
     }
-
-    /// Carries out the script and writes its report, up to the first line that does not fit.
-    fn run_whole(&mut self, report: &mut Report<'_>, script: &[u8]) -> Result<(), Full>
-        requires short { length script.now ≤ 32768 }
-        requires first { (self.old.lines ≡ 0) × (self.old.refused ≡ 0) }
-        requires ready { Ready self.old.register None }
-        ensures same { KeepsRoom report.old report.new }
-        ensures finished { (s : Shown) → Stands self.old.register None s → used report.old ≡ 0 → Finished Answered Ended (standing s None) script.now result report.new }
-    {
-        let (ran, seat) = self.run_lines(report, script);
-        give_everything_up(&mut self.register, seat);
-        ran?;
-        report.line(&[
-            Piece::End,
-            Piece::from(self.lines),
-            Piece::from(self.refused),
-            Piece::from(nodes_in_use(&self.register)),
-        ])
-    }
 }
 
-/// Runs a script that is not too long.
-fn run_script(
+/// Carries out the script and writes its report, up to the first line that does not fit. Everything is given up then.
+fn run_whole(
+    register: &mut Register<'_, Name>,
+    report: &mut Report<'_>,
     script: &[u8],
-    nodes: &mut [Node],
-    first_serial: u32,
-    out: &mut [u8],
-) -> Result<usize, Stopped>
+) -> Result<(), Full>
     requires short { length script.now ≤ 32768 }
-    ensures within { MatchResult result (λ n. n ≤ length out.old) (λ stopped. stopped.length ≤ length out.old) }
-    ensures ran { Reported Answered Ended (beginning (min (length nodes.old) 65535) first_serial) script.now result out.old out.new }
+    requires ready { Ready register.old None }
+    ensures same { KeepsRoom report.old report.new }
+    ensures finished { (s : Shown) → Stands register.old None s → used report.old ≡ 0 → (s' : Shown) × ShownBy forward register.new s' × (s'.used ≡ 0) × Finished Answered (Ended (moment register.new s')) (standing register.old s None) script.now result report.new }
+    ensures lent { SameLoan register.old register.new }
 {
-    let mut report = Report::new(out);
-    let mut runner = Runner {
-        register: Register::new(nodes, first_serial),
-        lines: 0,
-        refused: 0,
-    };
-    let whole = runner.run_whole(&mut report, script);
-    let length = report.len();
-    let why = Refusal::ReportFull;
-    whole.map(|()| length).map_err(|_| Stopped { length, why })
+    let mut progress = Progress::default();
+    let (ran, seat) = progress.run_lines(register, report, script);
+    give_everything_up(register, seat);
+    ran?;
+    report.line(&[
+        Piece::End,
+        Piece::from(progress.lines),
+        Piece::from(progress.refused),
+        Piece::from(nodes_in_use(register)),
+    ])
 }
 
 /// Runs a script in a register made over `nodes`, and writes its report into `out`. Gives the report's length.
-/// The register's nodes are the first 65,535 at most, and what lies behind them is not written.
+/// The register's nodes are the first of `nodes`, 65,535 at most; all of them are free afterwards. What lies behind them is not
+/// written. A script of more than 32,768 bytes writes nothing.
 pub fn run(
     script: &[u8],
     nodes: &mut [Node],
@@ -256,7 +253,7 @@ pub fn run(
     ensures within { MatchResult result (λ n. n ≤ length out.old) (λ stopped. stopped.length ≤ length out.old) }
     ensures beyond { drop 65535 nodes.new ≡ drop 65535 nodes.old }
     ensures long { 32768 < length script.now → TooLong result out.old out.new × (nodes.new ≡ nodes.old) }
-    ensures ran { length script.now ≤ 32768 → Reported Answered Ended (beginning (min (length nodes.old) 65535) first_serial) script.now result out.old out.new }
+    ensures ran { length script.now ≤ 32768 → RanScript (min (length nodes.old) 65535) first_serial script.now result out.old out.new (take 65535 nodes.new) }
 {
     if script.len() > LONGEST_SCRIPT {
         return Err(Stopped {
@@ -264,6 +261,10 @@ pub fn run(
             why: Refusal::ScriptTooLong,
         });
     }
-    let size = nodes.len().min(MOST_NODES);
-    run_script(script, &mut nodes[..size], first_serial, out)
+    let mut register = Register::new(nodes, first_serial);
+    let mut report = Report::new(out);
+    let whole = run_whole(&mut register, &mut report, script);
+    let length = report.len();
+    let why = Refusal::ReportFull;
+    whole.map(|()| length).map_err(|_| Stopped { length, why })
 }

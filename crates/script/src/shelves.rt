@@ -2,7 +2,7 @@
 
 ghost use Rattle.std.specs.Prelude.{◌≡◌, [], ◌∷◌, None};
 ghost use Rattle.register.specs.Calls.{as_of, done, done_answer, line_handle, retires as retiring, stows, total};
-ghost use Rattle.register.specs.Registers.{HandsBack, Tells};
+ghost use Rattle.register.specs.Registers.{HandsBack, SameLoan, Tells};
 ghost use Rattle.script.specs.Answers.{answer_to};
 ghost use Rattle.script.specs.Commands.{asks, branches, opens, retires};
 ghost use Rattle.script.specs.Runs.{Carried, Cleared, forward};
@@ -15,7 +15,8 @@ use register::{Line, Refusal, Refused, Register};
 /// Lays a line at rest on a shelf where none lies.
 pub(crate) fn lay_back(register: &mut Register<'_, Name>, line: Line, shelf: u8)
     requires { MayLie register.old (line_handle line) shelf }
-    ensures { Tells forward register.old (stows (line_handle line) shelf) done register.new }
+    ensures told { Tells forward register.old (stows (line_handle line) shelf) done register.new }
+    ensures lent { SameLoan register.old register.new }
 {
     register.stow(line, shelf).unwrap();
 }
@@ -23,7 +24,8 @@ pub(crate) fn lay_back(register: &mut Register<'_, Name>, line: Line, shelf: u8)
 /// Retires a line that is at rest.
 fn end_line(register: &mut Register<'_, Name>, line: Line)
     requires { Resting register.old (line_handle line) }
-    ensures { Tells forward register.old (retiring (line_handle line)) done register.new }
+    ensures told { Tells forward register.old (retiring (line_handle line)) done register.new }
+    ensures lent { SameLoan register.old register.new }
 {
     register.retire(line).unwrap();
 }
@@ -32,6 +34,7 @@ fn end_line(register: &mut Register<'_, Name>, line: Line)
 fn end_refused(register: &mut Register<'_, Name>, refused: Refused<Line>) -> Refusal
     requires { Resting register.old (line_handle refused.handle) }
     ensures told { Tells forward register.old (retiring (line_handle refused.handle)) done register.new }
+    ensures lent { SameLoan register.old register.new }
     ensures why { result ≡ refused.why }
 {
     let Refused { handle, why } = refused;
@@ -49,6 +52,7 @@ fn stow_both(
 ) -> Result<(), Refused<Line>>
     requires { MayLie register.old (line_handle old) from }
     ensures told { RunsBy register.old ((stows (line_handle old) from, done) ∷ (stows (line_handle new) to, done_answer result) ∷ []) register.new }
+    ensures lent { SameLoan register.old register.new }
     ensures back { HandsBack new result }
 {
     lay_back(register, old, from);
@@ -58,7 +62,8 @@ fn stow_both(
 /// Opens a line and stows it on the shelf. A line whose stowing is refused is retired.
 pub(crate) fn open_on(register: &mut Register<'_, Name>, shelf: u8) -> Result<(), Refusal>
     requires { Ready register.old None }
-    ensures { Leads register.old None register.new None (λ s s'. Carried s (opens shelf) (answer_to result) s') }
+    ensures leads { Leads register.old None register.new None (λ s s'. Carried s (opens shelf) (answer_to result) s') }
+    ensures lent { SameLoan register.old register.new }
 {
     let line = register.open_line()?;
     match register.stow(line, shelf) {
@@ -71,7 +76,8 @@ pub(crate) fn open_on(register: &mut Register<'_, Name>, shelf: u8) -> Result<()
 /// refused is retired.
 pub(crate) fn branch_on(register: &mut Register<'_, Name>, from: u8, to: u8) -> Result<(), Refusal>
     requires { Ready register.old None }
-    ensures { Leads register.old None register.new None (λ s s'. Carried s (branches from to) (answer_to result) s') }
+    ensures leads { Leads register.old None register.new None (λ s s'. Carried s (branches from to) (answer_to result) s') }
+    ensures lent { SameLoan register.old register.new }
 {
     let line = register.fetch(from)?;
     let (old, new) = match register.branch(line) {
@@ -97,7 +103,8 @@ pub(crate) fn as_of_on(
     measured: u32,
 ) -> Result<Reply, Refusal>
     requires { Ready register.old None }
-    ensures { Leads register.old None register.new None (λ s s'. Carried s (asks shelf recorded (as_of name.now measured)) result s') }
+    ensures leads { Leads register.old None register.new None (λ s s'. Carried s (asks shelf recorded (as_of name.now measured)) result s') }
+    ensures lent { SameLoan register.old register.new }
 {
     let line = register.fetch(shelf)?;
     let answer = reading_answer(register.as_of(&line, recorded, name, measured));
@@ -115,7 +122,8 @@ pub(crate) fn total_on(
     to: u32,
 ) -> Result<Reply, Refusal>
     requires { Ready register.old None }
-    ensures { Leads register.old None register.new None (λ s s'. Carried s (asks shelf recorded (total name.now from to)) result s') }
+    ensures leads { Leads register.old None register.new None (λ s s'. Carried s (asks shelf recorded (total name.now from to)) result s') }
+    ensures lent { SameLoan register.old register.new }
 {
     let line = register.fetch(shelf)?;
     let answer = total_answer(register.total(&line, recorded, name, from, to));
@@ -126,7 +134,8 @@ pub(crate) fn total_on(
 /// Retires the line of the shelf.
 pub(crate) fn retire_on(register: &mut Register<'_, Name>, shelf: u8) -> Result<(), Refusal>
     requires { Ready register.old None }
-    ensures { Leads register.old None register.new None (λ s s'. Carried s (retires shelf) (answer_to result) s') }
+    ensures leads { Leads register.old None register.new None (λ s s'. Carried s (retires shelf) (answer_to result) s') }
+    ensures lent { SameLoan register.old register.new }
 {
     let line = register.fetch(shelf)?;
     end_line(register, line);
@@ -136,7 +145,8 @@ pub(crate) fn retire_on(register: &mut Register<'_, Name>, shelf: u8) -> Result<
 /// Retires the lines of all shelves.
 pub(crate) fn clear(register: &mut Register<'_, Name>)
     requires { Ready register.old None }
-    ensures { Leads register.old None register.new None (λ s s'. Cleared 26 s.shown s'.shown) }
+    ensures leads { Leads register.old None register.new None (λ s s'. Cleared 26 s.now s'.now) }
+    ensures lent { SameLoan register.old register.new }
 {
     for shelf in b'A'..=b'Z' {
         let _ = retire_on(register, shelf);

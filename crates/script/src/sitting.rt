@@ -2,7 +2,7 @@
 
 ghost use Rattle.std.specs.Prelude.{◌≡◌, Some, None};
 ghost use Rattle.register.specs.Calls.{abandons as abandoning, done, line_handle, sitting_handle};
-ghost use Rattle.register.specs.Registers.{Tells};
+ghost use Rattle.register.specs.Registers.{SameLoan, Tells};
 ghost use Rattle.script.specs.Answers.{answer_to};
 ghost use Rattle.script.specs.Commands.{begins, commits};
 ghost use Rattle.script.specs.Runs.{Carried, Left, forward};
@@ -26,7 +26,8 @@ pub(crate) fn begin_on(
     recorded: u32,
 ) -> Result<OpenSitting, Refusal>
     requires { Ready register.old None }
-    ensures { Leads register.old None register.new (begun_by result) (λ s s'. Carried s (begins shelf recorded) (answer_to result) s') }
+    ensures leads { Leads register.old None register.new (begun_by result) (λ s s'. Carried s (begins shelf recorded) (answer_to result) s') }
+    ensures lent { SameLoan register.old register.new }
 {
     let line = register.fetch(shelf)?;
     match register.begin(line, recorded) {
@@ -45,7 +46,8 @@ pub(crate) fn commit_sitting(
     seat: OpenSitting,
 ) -> Result<(), Refused<OpenSitting>>
     requires { Ready register.old (Some seat) }
-    ensures { Leads register.old (Some seat) register.new (left_open result) (λ s s'. Carried s commits (commit_answer result) s') }
+    ensures leads { Leads register.old (Some seat) register.new (left_open result) (λ s s'. Carried s commits (commit_answer result) s') }
+    ensures lent { SameLoan register.old register.new }
 {
     let OpenSitting { sitting, shelf } = seat;
     match register.commit(sitting) {
@@ -86,6 +88,7 @@ pub(crate) fn after_commit(
 fn give_up(register: &mut Register<'_, Name>, sitting: Sitting) -> Line
     requires { InSitting register.old (sitting_handle sitting) }
     ensures told { Tells forward register.old (abandoning (sitting_handle sitting)) done register.new }
+    ensures lent { SameLoan register.old register.new }
     ensures same { line_handle result ≡ sitting_handle sitting }
 {
     register.abandon(sitting).unwrap()
@@ -94,7 +97,8 @@ fn give_up(register: &mut Register<'_, Name>, sitting: Sitting) -> Line
 /// Abandons the sitting, and lays its line back.
 pub(crate) fn abandon_sitting(register: &mut Register<'_, Name>, seat: OpenSitting)
     requires { Ready register.old (Some seat) }
-    ensures { Leads register.old (Some seat) register.new None (λ s s'. Left s s'.shown) }
+    ensures leads { Leads register.old (Some seat) register.new None (λ s s'. Left s s'.now) }
+    ensures lent { SameLoan register.old register.new }
 {
     let OpenSitting { sitting, shelf } = seat;
     let line = give_up(register, sitting);

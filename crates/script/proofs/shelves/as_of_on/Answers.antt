@@ -9,8 +9,8 @@ use Rattle.script.specs.Standings.{Leads}
 use Rattle.script.proofs.Carrying.{carried, fetched-lies, last, more, told-only}
 use Rattle.script.proofs.shelves.as_of_on.Goals as goal
 
-pub returns-in_err-line : goal.returns-in_err-line
-returns-in_err-line c =
+pub returns-in_err-line-clause-leads : goal.returns-in_err-line-clause-leads
+returns-in_err-line-clause-leads c =
     passed (λ r. Leads c.args.register.now None c.fetch.new.self None (λ s s'. Carried s (asks c.args.shelf c.args.recorded (as_of c.args.name.now c.args.measured)) r s')) _ _ c.from_residual.ensures.1
     (carried c.args.register.now c.fetch.new.self None (asks c.args.shelf c.args.recorded (as_of c.args.name.now c.args.measured)) _ (Err c.in_err-line.field-0.0)
     (ask_unfetched c.args.shelf c.args.recorded (as_of c.args.name.now c.args.measured) c.in_err-line.field-0.0)
@@ -20,8 +20,8 @@ pub lay_back-requires : goal.lay_back-requires
 lay_back-requires c =
     fetched-lies c.args.register.now c.fetch.new.self c.args.shelf (line_handle c.in_ok-line.line) c.requires c.in_ok-line.ensures.told
 
-pub returns : goal.returns
-returns c =
+pub returns-clause-leads : goal.returns-clause-leads
+returns-clause-leads c =
     let line = line_handle c.in_ok-line.line in
     let question = (as_of c.args.name.now c.args.measured) in
     let fetched = c.fetch.new.self in
@@ -30,4 +30,4 @@ returns c =
     (asked c.args.shelf c.args.recorded question line answer c.reading_answer-answer.result c.reading_answer-answer.ensures)
     (more c.args.register.now fetched c.lay_back.new.register (call.fetches c.args.shelf) (handed line) _ c.in_ok-line.ensures.told
     (more fetched fetched c.lay_back.new.register (call.asks line c.args.recorded question) answer _ (told-only fetched (call.asks line c.args.recorded question) answer c.as_of.ensures)
-    (last fetched c.lay_back.new.register (call.stows line c.args.shelf) done c.lay_back.ensures)))
+    (last fetched c.lay_back.new.register (call.stows line c.args.shelf) done c.lay_back.ensures.told)))

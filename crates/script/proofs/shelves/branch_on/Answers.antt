@@ -13,8 +13,8 @@ use Rattle.script.specs.Runs.{Carried}
 use Rattle.script.proofs.Carrying.{both, both-then, branched-rests, carried, fetched-lies, last, lies-branched, lies-refused, more, runs_of, told_of, why-of}
 use Rattle.script.proofs.shelves.branch_on.Goals as goal
 
-pub returns-in_err-line : goal.returns-in_err-line
-returns-in_err-line c =
+pub returns-in_err-line-clause-leads : goal.returns-in_err-line-clause-leads
+returns-in_err-line-clause-leads c =
     passed (λ r. Leads c.args.register.now None c.fetch.new.self None (λ s s'. Carried s (branches c.args.from c.args.to) (answer_to r) s')) _ _ c.from_residual.ensures.1
     (carried c.args.register.now c.fetch.new.self None (branches c.args.from c.args.to) _ (Err c.in_err-line.field-0.0)
     (branch_unfetched c.args.from c.args.to c.in_err-line.field-0.0)
@@ -29,8 +29,8 @@ lay_back-requires c =
     (fetched-lies c.args.register.now c.fetch.new.self c.args.from old c.requires c.in_ok-line.ensures.told)
     branching.told)
 
-pub returns-in_Err-lines : goal.returns-in_Err-lines
-returns-in_Err-lines c =
+pub returns-in_Err-lines-clause-leads : goal.returns-in_Err-lines-clause-leads
+returns-in_Err-lines-clause-leads c =
     let old = line_handle c.in_ok-line.line in
     let branching = c.in_Err-lines.ensures in
     carried c.args.register.now c.lay_back.new.register None (branches c.args.from c.args.to) _ (Err c.in_Err-lines.refused.why)
@@ -38,7 +38,7 @@ returns-in_Err-lines c =
     (more c.args.register.now c.fetch.new.self c.lay_back.new.register (call.fetches c.args.from) (handed old) _ c.in_ok-line.ensures.told
     (more c.fetch.new.self c.branch-lines.new.self c.lay_back.new.register (call.branches old) (refused c.in_Err-lines.refused.why) _ branching.told
     (last c.branch-lines.new.self c.lay_back.new.register (call.stows old c.args.from) done
-    (told_of c.branch-lines.new.self c.lay_back.new.register (λ (h : Handle). call.stows h c.args.from) done c.in_Err-lines.refused.handle c.in_ok-line.line branching.back c.lay_back.ensures))))
+    (told_of c.branch-lines.new.self c.lay_back.new.register (λ (h : Handle). call.stows h c.args.from) done c.in_Err-lines.refused.handle c.in_ok-line.line branching.back c.lay_back.ensures.told))))
 
 pub stow_both-requires : goal.stow_both-requires
 stow_both-requires c =
@@ -61,8 +61,8 @@ end_refused-requires c =
     branching.told
     (runs_of c.branch-lines.new.self c.stow_both.new.register c.in_Ok-lines.lines.0 c.in_ok-line.line c.args.from (call.stows new c.args.to, refused c.in-Err.refused.why) branching.back stowing.told))
 
-pub returns-in-Ok : goal.returns-in-Ok
-returns-in-Ok c =
+pub returns-in-Ok-clause-leads : goal.returns-in-Ok-clause-leads
+returns-in-Ok-clause-leads c =
     let old = line_handle c.in_ok-line.line in
     let new = line_handle c.in_Ok-lines.lines.1 in
     let branching = c.in_Ok-lines.ensures in
@@ -74,8 +74,8 @@ returns-in-Ok c =
     (both c.branch-lines.new.self c.stow_both.new.register (call.stows old c.args.from, done) (call.stows new c.args.to, done)
     (runs_of c.branch-lines.new.self c.stow_both.new.register c.in_Ok-lines.lines.0 c.in_ok-line.line c.args.from (call.stows new c.args.to, done) branching.back stowing.told))))
 
-pub returns-in-Err : goal.returns-in-Err
-returns-in-Err c =
+pub returns-in-Err-clause-leads : goal.returns-in-Err-clause-leads
+returns-in-Err-clause-leads c =
     let old = line_handle c.in_ok-line.line in
     let new = line_handle c.in_Ok-lines.lines.1 in
     let branching = c.in_Ok-lines.ensures in

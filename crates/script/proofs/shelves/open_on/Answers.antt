@@ -12,8 +12,8 @@ use Rattle.script.specs.Runs.{Carried}
 use Rattle.script.proofs.Carrying.{carried, last, more, opened-rests, rests-refused, told_of, why-of}
 use Rattle.script.proofs.shelves.open_on.Goals as goal
 
-pub returns-in_err-line : goal.returns-in_err-line
-returns-in_err-line c =
+pub returns-in_err-line-clause-leads : goal.returns-in_err-line-clause-leads
+returns-in_err-line-clause-leads c =
     passed (λ r. Leads c.args.register.now None c.open_line.new.self None (λ s s'. Carried s (opens c.args.shelf) (answer_to r) s')) _ _ c.from_residual.ensures.1
     (carried c.args.register.now c.open_line.new.self None (opens c.args.shelf) _ (Err c.in_err-line.field-0.0)
     (open_refused c.args.shelf c.in_err-line.field-0.0)
@@ -28,16 +28,16 @@ end_refused-requires c =
     (opened-rests c.args.register.now c.open_line.new.self (line_handle line) c.requires c.in_ok-line.ensures.told)
     stowing.told)
 
-pub returns-in-Ok : goal.returns-in-Ok
-returns-in-Ok c =
+pub returns-in-Ok-clause-leads : goal.returns-in-Ok-clause-leads
+returns-in-Ok-clause-leads c =
     let new = line_handle c.in_ok-line.line in
     carried c.args.register.now c.stow.new.self None (opens c.args.shelf) _ (Ok Done)
     (open_stowed c.args.shelf new)
     (more c.args.register.now c.open_line.new.self c.stow.new.self call.opens (handed new) _ c.in_ok-line.ensures.told
     (last c.open_line.new.self c.stow.new.self (call.stows new c.args.shelf) done c.in-Ok.ensures.told))
 
-pub returns-in-Err : goal.returns-in-Err
-returns-in-Err c =
+pub returns-in-Err-clause-leads : goal.returns-in-Err-clause-leads
+returns-in-Err-clause-leads c =
     let new = line_handle c.in_ok-line.line in
     let stowing = c.in-Err.ensures in
     let ending = c.end_refused.ensures in

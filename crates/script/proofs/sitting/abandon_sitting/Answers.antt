@@ -7,7 +7,7 @@ lay_back-requires c =
     let gave = c.give_up-line.ensures in
     abandoned-lies c.args.register.now c.give_up-line.new.register c.args.seat (line_handle c.give_up-line.result) gave.same c.requires gave.told
 
-pub returns : goal.returns
-returns c =
+pub returns-clause-leads : goal.returns-clause-leads
+returns-clause-leads c =
     let gave = c.give_up-line.ensures in
-    left c.args.register.now c.give_up-line.new.register c.args.seat c.lay_back.new.register (line_handle c.give_up-line.result) gave.same c.lay_back.ensures gave.told
+    left c.args.register.now c.give_up-line.new.register c.args.seat c.lay_back.new.register (line_handle c.give_up-line.result) gave.same c.lay_back.ensures.told gave.told

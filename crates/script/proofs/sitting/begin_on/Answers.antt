@@ -12,8 +12,8 @@ use Rattle.script.specs.Runs.{Carried}
 use Rattle.script.proofs.Carrying.{begun, carried, fetched-lies, last, lies-refused, more, told_of}
 use Rattle.script.proofs.sitting.begin_on.Goals as goal
 
-pub returns-in_err-line : goal.returns-in_err-line
-returns-in_err-line c =
+pub returns-in_err-line-clause-leads : goal.returns-in_err-line-clause-leads
+returns-in_err-line-clause-leads c =
     passed (λ r. Leads c.args.register.now None c.fetch.new.self (begun_by r) (λ s s'. Carried s (begins c.args.shelf c.args.recorded) (answer_to r) s')) _ _ c.from_residual.ensures.1
     (carried c.args.register.now c.fetch.new.self None (begins c.args.shelf c.args.recorded) _ (Err c.in_err-line.field-0.0)
     (begin_unfetched c.args.shelf c.args.recorded c.in_err-line.field-0.0)
@@ -28,13 +28,13 @@ lay_back-requires c =
     (fetched-lies c.args.register.now c.fetch.new.self c.args.shelf line c.requires c.in_ok-line.ensures.told)
     beginning.told)
 
-pub returns-in-Ok : goal.returns-in-Ok
-returns-in-Ok c =
+pub returns-in-Ok-clause-leads : goal.returns-in-Ok-clause-leads
+returns-in-Ok-clause-leads c =
     let beginning = c.in-Ok.ensures in
     begun c.args.register.now c.fetch.new.self c.begin.new.self c.args.shelf c.args.recorded (line_handle c.in_ok-line.line) c.in-Ok.sitting beginning.kept c.in_ok-line.ensures.told beginning.told
 
-pub returns-in-Err : goal.returns-in-Err
-returns-in-Err c =
+pub returns-in-Err-clause-leads : goal.returns-in-Err-clause-leads
+returns-in-Err-clause-leads c =
     let line = line_handle c.in_ok-line.line in
     let beginning = c.in-Err.ensures in
     carried c.args.register.now c.lay_back.new.register None (begins c.args.shelf c.args.recorded) _ (Err c.in-Err.refused.why)
@@ -42,4 +42,4 @@ returns-in-Err c =
     (more c.args.register.now c.fetch.new.self c.lay_back.new.register (call.fetches c.args.shelf) (handed line) _ c.in_ok-line.ensures.told
     (more c.fetch.new.self c.begin.new.self c.lay_back.new.register (call.begins line c.args.recorded) (refused c.in-Err.refused.why) _ beginning.told
     (last c.begin.new.self c.lay_back.new.register (call.stows line c.args.shelf) done
-    (told_of c.begin.new.self c.lay_back.new.register (λ (h : Handle). call.stows h c.args.shelf) done c.in-Err.refused.handle c.in_ok-line.line beginning.back c.lay_back.ensures))))
+    (told_of c.begin.new.self c.lay_back.new.register (λ (h : Handle). call.stows h c.args.shelf) done c.in-Err.refused.handle c.in_ok-line.line beginning.back c.lay_back.ensures.told))))

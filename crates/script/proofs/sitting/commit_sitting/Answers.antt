@@ -7,12 +7,12 @@ lay_back-requires c =
     let committing = c.in-Ok.ensures in
     committed-lies c.args.register.now c.commit.new.self c.args.seat (line_handle c.in-Ok.line) committing.kept c.requires committing.told
 
-pub returns-in-Ok : goal.returns-in-Ok
-returns-in-Ok c =
+pub returns-in-Ok-clause-leads : goal.returns-in-Ok-clause-leads
+returns-in-Ok-clause-leads c =
     let committing = c.in-Ok.ensures in
-    committed c.args.register.now c.commit.new.self c.args.seat c.lay_back.new.register (line_handle c.in-Ok.line) committing.kept c.lay_back.ensures committing.told
+    committed c.args.register.now c.commit.new.self c.args.seat c.lay_back.new.register (line_handle c.in-Ok.line) committing.kept c.lay_back.ensures.told committing.told
 
-pub returns-in-Err : goal.returns-in-Err
-returns-in-Err c =
+pub returns-in-Err-clause-leads : goal.returns-in-Err-clause-leads
+returns-in-Err-clause-leads c =
     let committing = c.in-Err.ensures in
     commit_refused c.args.register.now c.commit.new.self c.args.seat c.in-Err.refused.handle c.in-Err.refused.why committing.back committing.told

@@ -1,9 +1,10 @@
 use Rattle.std.proofs.Common.{◌+◌, ◌≤◌, length, None}
 use Rattle.report.specs.Report.{KeepsRoom}
+use Rattle.register.specs.Registers.{SameLoan}
 use Rattle.script.specs.Lines.{lines_of}
 use Rattle.script.specs.Standings.{Leads, Ready}
 use Rattle.script.proofs.Turning.{OnWay}
-use Rattle.script.proofs.runner.Runner.run_lines.Given as goal
+use Rattle.script.proofs.runner.Progress.run_lines.Given as goal
 
 -- the run is on its way, and its lines to come are those of the lines that are left
 abbrev pub invariant-loop-line : goal.invariant-loop-line
@@ -13,6 +14,7 @@ invariant-loop-line l =
       counted : l.self.lines + length left ≤ 32768;
       fewer : l.self.refused ≤ l.self.lines;
       same : KeepsRoom l.initial.report l.report;
-      ready : Ready l.self.register l.seat;
-      way : Leads l.initial.self.register None l.self.register l.seat (OnWay l.initial.report l.report l.fn.script left l.self.lines l.self.refused);
+      ready : Ready l.register l.seat;
+      way : Leads l.initial.register None l.register l.seat (OnWay l.initial.report l.report l.fn.script left l.self.lines l.self.refused);
+      loan : SameLoan l.initial.register l.register;
     }

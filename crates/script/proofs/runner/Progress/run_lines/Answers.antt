@@ -1,12 +1,13 @@
 use Rattle.std.proofs.Common.{◌≡◌, ℕ, ◌<◌, List, ◌∷◌, length, refl, ap, ◌∙◌, sym, arith, rules}
 use Rattle.std.proofs.lemmas.Grind.{common_steps}
+use Rattle.register.proofs.Memory.{loan-then}
 use Rattle.report.proofs.Writing.{same-then}
 use Rattle.script.specs.Fields.{fields_of, left}
 use Rattle.script.specs.Lines.{lines_of}
 use Rattle.script.specs.declared.script_lines.ScriptLines.{ScriptLines}
 use Rattle.script.proofs.Running.{lines-le, refusals-le}
 use Rattle.script.proofs.Turning.{on-way, turned-cut, turned-empty, turned-line, turned-none}
-use Rattle.script.proofs.runner.Runner.run_lines.Goals as goal
+use Rattle.script.proofs.runner.Progress.run_lines.Goals as goal
 
 pub loop-line-init : goal.loop-line-init
 loop-line-init c =
@@ -19,7 +20,8 @@ loop-line-init c =
       fewer = omega arith;
       same = record { lent = refl; kept = refl };
       ready = c.requires.ready;
-      way = on-way c.args.report.now c.args.script.now c.args.self.now.register;
+      way = on-way c.args.report.now c.args.script.now c.args.register.now;
+      loan = record { borrow = refl; size = refl; behind = refl };
     })
 
 pub loop-line-preserved-then-is_empty : goal.loop-line-preserved-then-is_empty
@@ -33,8 +35,9 @@ loop-line-preserved-then-is_empty c =
       fewer = omega (arith, turn.invariant.fewer);
       same = turn.invariant.same;
       ready = turn.invariant.ready;
-      way = turned-empty c.args.self.now.register turn.self.register turn.seat c.args.report.now turn.report c.args.script.now (lines_of turn.line-iterator.rest.now) turn.self.lines turn.self.refused turn.invariant.way
+      way = turned-empty c.args.register.now turn.register turn.seat c.args.report.now turn.report c.args.script.now (lines_of turn.line-iterator.rest.now) turn.self.lines turn.self.refused turn.invariant.way
           c.in-Some.line.now (lines_of c.next.new.self.rest.now) step none;
+      loan = turn.invariant.loan;
     }
 
 pub loop-line-preserved : goal.loop-line-preserved
@@ -53,9 +56,10 @@ loop-line-preserved c =
       fewer = omega (arith, one, turn.invariant.fewer, wrote.counted, ran.counted);
       same = same-then turn.invariant.same wrote.same;
       ready = (s₁, stands₁);
-      way = rw wrote.counted (turned-line c.args.self.now.register turn.self.register turn.seat c.args.report.now turn.report c.args.script.now (lines_of turn.line-iterator.rest.now) turn.self.lines turn.self.refused turn.invariant.way
-          c.in-Some.line.now (lines_of c.next.new.self.rest.now) step some c.run_line-ran.new.report wrote.same.kept (left c.new.result) read c.run_line-ran.new.self.register c.run_line-ran.result.1 c.run_line-ran.result.0 c.run_line-ran.new.self.refused wrote.ran
+      way = rw wrote.counted (turned-line c.args.register.now turn.register turn.seat c.args.report.now turn.report c.args.script.now (lines_of turn.line-iterator.rest.now) turn.self.lines turn.self.refused turn.invariant.way
+          c.in-Some.line.now (lines_of c.next.new.self.rest.now) step some c.run_line-ran.new.report wrote.same.kept (left c.new.result) read c.run_line-ran.new.register c.run_line-ran.result.1 c.run_line-ran.result.0 c.run_line-ran.new.self.refused wrote.ran
           (sym c.is_err.ensures.value ∙ c.if-is_err.false));
+      loan = loan-then c.args.register.now turn.register c.run_line-ran.new.register turn.invariant.loan wrote.lent;
     }
 
 pub returns-then-is_err-clause-ran : goal.returns-then-is_err-clause-ran
@@ -65,11 +69,11 @@ returns-then-is_err-clause-ran c =
     let step : lines_of turn.line-iterator.rest.now ≡ c.in-Some.line.now ∷ lines_of c.next.new.self.rest.now = search rules in
     let read : left c.new.result ≡ fields_of c.in-Some.line.now = grind (arith, common_steps) in
     let some : 0 < length c.in-Some.line.now = search rules in
-    turned-cut c.args.self.now.register turn.self.register turn.seat c.args.report.now turn.report c.args.script.now (lines_of turn.line-iterator.rest.now) turn.self.lines turn.self.refused turn.invariant.way
-    c.in-Some.line.now (lines_of c.next.new.self.rest.now) step some c.run_line-ran.new.report wrote.same.kept (left c.new.result) read c.run_line-ran.new.self.register c.run_line-ran.result.1 c.run_line-ran.result.0 c.run_line-ran.new.self.refused wrote.ran
+    turned-cut c.args.register.now turn.register turn.seat c.args.report.now turn.report c.args.script.now (lines_of turn.line-iterator.rest.now) turn.self.lines turn.self.refused turn.invariant.way
+    c.in-Some.line.now (lines_of c.next.new.self.rest.now) step some c.run_line-ran.new.report wrote.same.kept (left c.new.result) read c.run_line-ran.new.register c.run_line-ran.result.1 c.run_line-ran.result.0 c.run_line-ran.new.self.refused wrote.ran
     c.run_line-ran.new.self (sym c.is_err.ensures.value ∙ c.if-is_err.true)
 
 pub returns-clause-ran : goal.returns-clause-ran
 returns-clause-ran c =
     let turn = c.loop-line in
-    turned-none c.args.self.now.register turn.self.register turn.seat c.args.report.now turn.report c.args.script.now (lines_of turn.line-iterator.rest.now) turn.self _ turn.invariant.way (search rules)
+    turned-none c.args.register.now turn.register turn.seat c.args.report.now turn.report c.args.script.now (lines_of turn.line-iterator.rest.now) turn.self _ turn.invariant.way (search rules)
