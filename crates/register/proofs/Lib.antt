@@ -54,3 +54,4 @@ pub mod Runs
 pub mod Shelves
 pub mod Moves
 pub mod Working
+pub mod Handles

@@ -85,7 +85,7 @@ pub record Vacancy (xs : List Place) (next place : ℕ) : Type 0 where
   pub within : place < length xs
   pub serial : next < 4294967295
 
-place-given : (next place : ℕ) (o : Option ℕ) → Ok place ≡ place_or next o → (o ≡ Some place) × (next < 4294967295)
+pub place-given : (next place : ℕ) (o : Option ℕ) → Ok place ≡ place_or next o → (o ≡ Some place) × (next < 4294967295)
 place-given next place None e = differ (cc)
 place-given next place (Some i) e =
     elim (ltb 4294967294 next) as (λ b. ltb 4294967294 next ≡ b → ◌≡◌ {A = Result ℕ Refusal} (Ok place) (cond b (Err SerialsExhausted) (Ok i)) → (Some i ≡ Some place) × (next < 4294967295)) [

@@ -1,11 +1,13 @@
 -- What a call on a register tells: whatever the register shows before it, the call is a step from there to what it shows after it.
-use Rattle.std.specs.Prelude.{◌≡◌, Ok, Err, Result}
+use Rattle.std.specs.Prelude.{◌≡◌, ◌≢◌, ℕ, true, Some, Ok, Err, Result}
 use Rattle.register.specs.Calls.{Answer, Call, Handle, Line, Sitting, line_handle, sitting_handle}
 use Rattle.register.specs.Contents.{Names}
 use Rattle.register.specs.Shown.{Shown, Shows}
 use Rattle.register.specs.Steps.{Step}
+use Rattle.register.specs.Tables.{in_state, line_of, state_in}
 use Rattle.register.specs.declared.handle.Refused.{Refused}
 use Rattle.register.specs.declared.register.Register.{Register}
+use Rattle.register.specs.declared.table.State.TheVariants.{AtRest, Sitting as seated_at}
 
 module _ {N : Type 0} {K : Type 0} (𝓝 : Names K) where
   abbrev pub ShownBy : Register N → Shown → Type 0
@@ -36,3 +38,17 @@ SameSitting handle (Err e) = Unit {0}
 abbrev pub SameLine : {E : Type 0} → Handle → Result Line E → Type 0
 SameLine handle (Ok line) = line_handle line ≡ handle
 SameLine handle (Err e) = Unit {0}
+
+-- a line at rest has the handle; a line in a sitting has it
+unfoldable pub IsAtRest : {N : Type 0} → Register N → Handle → Type 0
+IsAtRest r h = in_state AtRest (line_of r.table.lines h.place h.serial) ≡ true
+
+unfoldable pub IsInSitting : {N : Type 0} → Register N → Handle → Type 0
+IsInSitting r h = (recorded : ℕ) × (sheet : ℕ) × (state_in (line_of r.table.lines h.place h.serial) ≡ Some (seated_at recorded sheet))
+
+-- every handle that is so before a call is so after it; every one of another place
+abbrev pub Keeps : {N : Type 0} → (Register N → Handle → Type 0) → Register N → Register N → Type 0
+Keeps IsSo r r' = (h : Handle) → IsSo r h → IsSo r' h
+
+abbrev pub KeepsOthers : {N : Type 0} → (Register N → Handle → Type 0) → Handle → Register N → Register N → Type 0
+KeepsOthers IsSo own r r' = (h : Handle) → h.place ≢ own.place → IsSo r h → IsSo r' h

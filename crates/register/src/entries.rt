@@ -7,7 +7,7 @@ ghost use Rattle.register.specs.Contents.{names};
 ghost use Rattle.register.specs.Declined.{lacking, occupied};
 ghost use Rattle.register.specs.Entries.{Readable};
 ghost use Rattle.register.specs.Refusals.{first_of};
-ghost use Rattle.register.specs.Registers.{Tells};
+ghost use Rattle.register.specs.Registers.{IsAtRest, IsInSitting, Keeps, Tells};
 ghost use Rattle.register.specs.declared.entries.Change.TheVariants.{Record as records, Correct as corrects, Withdraw as withdraws};
 ghost use Rattle.register.specs.declared.refusal.Refusal.TheVariants.{NoReading, ReadingThere};
 
@@ -83,6 +83,8 @@ impl<'m, N: NameOrder> Register<'m, N> {
     ) -> Result<(), Refusal>
         ensures told { Tells (names N.Key.words N.Key.key N.cmp N.NameOrder.named N.NameOrder.name) self.old (enters (sitting_handle sitting.now) name.now measured change) (entry_answer result) self.new }
         ensures same { is_err result ≡ true → self.new ≡ self.old }
+        ensures lines { Keeps IsAtRest self.old self.new }
+        ensures sittings { Keeps IsInSitting self.old self.new }
     {
         let (record, recorded, sheet) = self.table.sitting(sitting)?;
         let name = Name::try_from(name)?;
@@ -109,6 +111,8 @@ impl<'m, N: NameOrder> Register<'m, N> {
     ) -> Result<(), Refusal>
         ensures told { Tells (names N.Key.words N.Key.key N.cmp N.NameOrder.named N.NameOrder.name) self.old (enters (sitting_handle sitting.now) name.now measured (records microhertz)) (entry_answer result) self.new }
         ensures same { is_err result ≡ true → self.new ≡ self.old }
+        ensures lines { Keeps IsAtRest self.old self.new }
+        ensures sittings { Keeps IsInSitting self.old self.new }
     {
         self.enter(sitting, name, measured, Change::recording(microhertz))
     }
@@ -123,6 +127,8 @@ impl<'m, N: NameOrder> Register<'m, N> {
     ) -> Result<(), Refusal>
         ensures told { Tells (names N.Key.words N.Key.key N.cmp N.NameOrder.named N.NameOrder.name) self.old (enters (sitting_handle sitting.now) name.now measured (corrects microhertz)) (entry_answer result) self.new }
         ensures same { is_err result ≡ true → self.new ≡ self.old }
+        ensures lines { Keeps IsAtRest self.old self.new }
+        ensures sittings { Keeps IsInSitting self.old self.new }
     {
         self.enter(sitting, name, measured, Change::correcting(microhertz))
     }
@@ -131,6 +137,8 @@ impl<'m, N: NameOrder> Register<'m, N> {
     pub fn withdraw(&mut self, sitting: &Sitting, name: &[u8], measured: u32) -> Result<(), Refusal>
         ensures told { Tells (names N.Key.words N.Key.key N.cmp N.NameOrder.named N.NameOrder.name) self.old (enters (sitting_handle sitting.now) name.now measured withdraws) (entry_answer result) self.new }
         ensures same { is_err result ≡ true → self.new ≡ self.old }
+        ensures lines { Keeps IsAtRest self.old self.new }
+        ensures sittings { Keeps IsInSitting self.old self.new }
     {
         self.enter(sitting, name, measured, Change::Withdraw)
     }

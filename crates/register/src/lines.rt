@@ -1,12 +1,12 @@
 //! Opening, branching, stowing, fetching and retiring lines.
 
-ghost use Rattle.std.specs.Prelude.{◌≡◌, ◌+◌, ◌^◌, ◌<◌, ◌≤◌, min, true, List, ◌∷◌, length, is_err};
+ghost use Rattle.std.specs.Prelude.{◌≡◌, ◌≢◌, ◌+◌, ◌^◌, ◌<◌, ◌≤◌, min, true, List, ◌∷◌, length, is_err, IfOk, IsOk};
 ghost use Rattle.pool.specs.Held.{Carries, Held, Holds, held};
 ghost use Rattle.pool.specs.Sound.{memory_of, used_of};
 ghost use Rattle.pool.specs.Tree.{Tree};
 ghost use Rattle.register.specs.Calls.{branch_answer, branches, done_answer, fetches, line_answer, line_handle, opens, retires, stows};
 ghost use Rattle.register.specs.Contents.{names};
-ghost use Rattle.register.specs.Registers.{GivesBack, HandsBack, ShownBy, Tells};
+ghost use Rattle.register.specs.Registers.{GivesBack, HandsBack, IsAtRest, IsInSitting, Keeps, KeepsOthers, ShownBy, Tells};
 ghost use Rattle.register.specs.Shown.{newly_made};
 ghost use Rattle.register.specs.Tables.{resting_record, vacancy_in};
 
@@ -85,6 +85,9 @@ impl<'m, N: NameOrder> Register<'m, N> {
     pub fn open_line(&mut self) -> Result<Line, Refusal>
         ensures told { Tells (names N.Key.words N.Key.key N.cmp N.NameOrder.named N.NameOrder.name) self.old opens (line_answer result) self.new }
         ensures same { is_err result ≡ true → self.new ≡ self.old }
+        ensures rests { IfOk result (λ line. IsAtRest self.new (line_handle line)) }
+        ensures lines { Keeps IsAtRest self.old self.new }
+        ensures sittings { Keeps IsInSitting self.old self.new }
     {
         let place = self.vacancy()?;
         let serial = self.next_serial();
@@ -97,6 +100,10 @@ impl<'m, N: NameOrder> Register<'m, N> {
         ensures told { Tells (names N.Key.words N.Key.key N.cmp N.NameOrder.named N.NameOrder.name) self.old (branches (line_handle line)) (branch_answer result) self.new }
         ensures back { GivesBack line result }
         ensures same { is_err result ≡ true → self.new ≡ self.old }
+        ensures rests { IfOk result (λ lines. IsAtRest self.new (line_handle lines.1)) }
+        ensures apart { IfOk result (λ lines. lines.1.place ≢ lines.0.place) }
+        ensures lines { Keeps IsAtRest self.old self.new }
+        ensures sittings { Keeps IsInSitting self.old self.new }
     {
         let Ok(record) = self.table.resting(&line) else {
             return Err(Refused {
@@ -119,6 +126,8 @@ impl<'m, N: NameOrder> Register<'m, N> {
         ensures told { Tells (names N.Key.words N.Key.key N.cmp N.NameOrder.named N.NameOrder.name) self.old (stows (line_handle line) letter) (done_answer result) self.new }
         ensures back { HandsBack line result }
         ensures same { is_err result ≡ true → self.new ≡ self.old }
+        ensures lines { KeepsOthers IsAtRest (line_handle line) self.old self.new }
+        ensures sittings { Keeps IsInSitting self.old self.new }
     {
         let record = match self.table.may_stow(&line, letter) {
             Ok(record) => record,
@@ -133,6 +142,9 @@ impl<'m, N: NameOrder> Register<'m, N> {
     pub fn fetch(&mut self, letter: u8) -> Result<Line, Refusal>
         ensures told { Tells (names N.Key.words N.Key.key N.cmp N.NameOrder.named N.NameOrder.name) self.old (fetches letter) (line_answer result) self.new }
         ensures same { is_err result ≡ true → self.new ≡ self.old }
+        ensures rests { IfOk result (λ line. IsAtRest self.new (line_handle line)) }
+        ensures lines { Keeps IsAtRest self.old self.new }
+        ensures sittings { Keeps IsInSitting self.old self.new }
     {
         if !letter.is_ascii_uppercase() {
             return Err(Refusal::NotAShelf);
@@ -150,6 +162,9 @@ impl<'m, N: NameOrder> Register<'m, N> {
         ensures told { Tells (names N.Key.words N.Key.key N.cmp N.NameOrder.named N.NameOrder.name) self.old (retires (line_handle line)) (done_answer result) self.new }
         ensures back { HandsBack line result }
         ensures same { is_err result ≡ true → self.new ≡ self.old }
+        ensures accepted { IsAtRest self.old (line_handle line) → IsOk result }
+        ensures lines { KeepsOthers IsAtRest (line_handle line) self.old self.new }
+        ensures sittings { Keeps IsInSitting self.old self.new }
     {
         let Ok(record) = self.table.resting(&line) else {
             return Err(Refused {

@@ -76,6 +76,15 @@ fn numbers_of<S>(handle: Handle<S>) -> Parts
     Parts { place, serial }
 }
 
+/// Why a call was declined. The handle that comes back is no more: the caller has its numbers.
+fn reason<S>(refused: Refused<Handle<S>>) -> Refusal
+    ensures { result ≡ refused.why }
+{
+    let Refused { handle, why } = refused;
+    let _ = handle.into_parts();
+    why
+}
+
 /// The answer of a call that gives a line.
 fn handed(res: Result<Line, Refusal>) -> Answer
     ensures { answer_of result ≡ line_answer res }
@@ -87,24 +96,36 @@ fn handed(res: Result<Line, Refusal>) -> Answer
 fn branched(res: Result<(Line, Line), Refused<Line>>) -> Answer
     ensures { answer_of result ≡ branch_answer res }
 {
-    let (old, new) = res?;
-    let _ = old.into_parts();
-    Ok(Reply::Handed(numbers_of(new)))
+    match res {
+        Ok((old, new)) => {
+            let _ = old.into_parts();
+            Ok(Reply::Handed(numbers_of(new)))
+        }
+        Err(refused) => Err(reason(refused)),
+    }
 }
 
 /// The answer of a call that ends with a line.
 fn spent(res: Result<(), Refused<Line>>) -> Answer
     ensures { answer_of result ≡ done_answer res }
 {
-    res.map(|_| Reply::Done).map_err(Refusal::from)
+    match res {
+        Ok(()) => Ok(Reply::Done),
+        Err(refused) => Err(reason(refused)),
+    }
 }
 
 /// The answer of a call that begins a sitting or ends one.
 fn turned<S, T>(res: Result<Handle<S>, Refused<Handle<T>>>) -> Answer
     ensures { answer_of result ≡ done_answer res }
 {
-    let _ = res?.into_parts();
-    Ok(Reply::Done)
+    match res {
+        Ok(handle) => {
+            let _ = handle.into_parts();
+            Ok(Reply::Done)
+        }
+        Err(refused) => Err(reason(refused)),
+    }
 }
 
 /// The answer of an entry.

@@ -1,8 +1,10 @@
-use Rattle.std.proofs.Common.{Some, refl, ◌∙◌}
+use Rattle.std.proofs.Common.{ℕ, Some, sym, refl, ap, ◌∙◌}
+use Rattle.register.specs.Calls.{line_handle, sitting_handle}
 use Rattle.register.specs.Tables.{line_of, resting_record}
 use Rattle.register.proofs.Ending.{abandoned, kept-abandoned, seat, sheet-first, unabandoned}
 use Rattle.register.proofs.Keeping.{the_places}
 use Rattle.register.proofs.Telling.{ghosts, never, put-at}
+use Rattle.register.proofs.Handles.{all-rest, others-sit, record-there, rests-now, sitting-no-rest, taken-sitting, within-lines}
 use Rattle.register.proofs.register.Register.abandon.Goals as goal
 
 pub returns-in_default : goal.returns-in_default
@@ -13,6 +15,10 @@ returns-in_default g c =
       back = refl;
       kept = tt;
       same = λ _. refl;
+      accepted = λ t. absurd (taken-sitting self (sitting_handle c.args.sitting) c.in_default.ensures.0 t);
+      rests = tt;
+      lines = λ h t. t;
+      sittings = λ h apart t. t;
     }
 
 pub stand_up-rested-requires : goal.stand_up-rested-requires
@@ -33,11 +39,17 @@ pub returns : goal.returns
 returns g c =
     let self = c.args.self.now in
     let (xs, k) = the_places self.pool self.table.lines self.kept in
+    let put = put-at self.table.lines _ _ _ _ _ c.put.ensures c.into_parts-place.ensures.place (c.stand_up-rested.ensures.made ∙ (λ i. resting_record ((seat self.pool self.table.lines c.args.sitting.place c.args.sitting.serial (Some c.in-Ok.record) c.in-Ok.ensures.0 _ c.in-Ok.sheet c.in-Ok.ensures.1 xs k).serial-is i) c.in-Ok.record.root)) in
     record {
       told = abandoned self.pool self.table.lines c.args.sitting.place c.args.sitting.serial (Some c.in-Ok.record) c.in-Ok.ensures.0 _ c.in-Ok.sheet c.in-Ok.ensures.1 c.stand_up-rested.new.pool _
-          (put-at self.table.lines _ _ _ _ _ c.put.ensures c.into_parts-place.ensures.place (c.stand_up-rested.ensures.made ∙ (λ i. resting_record ((seat self.pool self.table.lines c.args.sitting.place c.args.sitting.serial (Some c.in-Ok.record) c.in-Ok.ensures.0 _ c.in-Ok.sheet c.in-Ok.ensures.1 xs k).serial-is i) c.in-Ok.record.root))) c.stand_up-rested.ensures.owned
+          put c.stand_up-rested.ensures.owned
           _ self.next c.stand_up-rested.ensures.fewer c.stand_up-rested.ensures.size;
       back = tt;
       kept = λ i. record { place = (c.from_parts.ensures.place ∙ c.into_parts-place.ensures.place) i; serial = (c.from_parts.ensures.serial ∙ c.into_parts-place.ensures.serial) i };
       same = never;
+      accepted = λ _. refl;
+      rests = rests-now self _ _ _ put (line_handle c.from_parts.result) c.in-Ok.record.root (c.from_parts.ensures.place ∙ c.into_parts-place.ensures.place) (within-lines self.table.lines _ _ (record-there self.table.lines _ _ _ c.in-Ok.ensures.0))
+          (ap (λ (n : ℕ). Some (resting_record n c.in-Ok.record.root)) (sym (c.from_parts.ensures.serial ∙ c.into_parts-place.ensures.serial)));
+      lines = all-rest self _ _ _ put (sitting-no-rest self.table.lines _ _ _ _ _ c.in-Ok.ensures.0 c.in-Ok.ensures.1);
+      sittings = others-sit self _ _ _ put (sitting_handle c.args.sitting) refl;
     }

@@ -1,5 +1,5 @@
-use Rattle.std.proofs.Common.{refl, ◌∙◌, arith, Some}
-use Rattle.register.specs.Calls.{handed}
+use Rattle.std.proofs.Common.{sym, refl, ap, ◌∙◌, arith, Some}
+use Rattle.register.specs.Calls.{handed, line_handle}
 use Rattle.register.proofs.Changing.{length-places}
 use Rattle.register.proofs.Keeping.{the_places}
 use Rattle.register.proofs.Opening.{branched, crowded, kept-branched, retainable, unbranched}
@@ -7,6 +7,7 @@ use Rattle.register.proofs.Owning.{length-owners}
 use Rattle.register.proofs.Telling.{ghosts, made_at, never, put-at}
 use Rattle.register.specs.Places.{owners_of}
 use Rattle.register.specs.Tables.{line_of}
+use Rattle.register.proofs.Handles.{all-rest, all-sit, apart-from, free-rests, free-sits, rests-now, vacant}
 use Rattle.register.proofs.register.Register.branch.Goals as goal
 
 pub returns-in_default : goal.returns-in_default
@@ -16,6 +17,10 @@ returns-in_default g c =
       told = unbranched self.pool self.table.lines c.args.line.place c.args.line.serial (line_of self.table.lines c.args.line.place c.args.line.serial) refl self.next _ c.in_default.ensures.0;
       back = refl;
       same = λ _. refl;
+      rests = tt;
+      apart = tt;
+      lines = λ h t. t;
+      sittings = λ h t. t;
     }
 
 pub returns-in-Err : goal.returns-in-Err
@@ -25,6 +30,10 @@ returns-in-Err g c =
       told = crowded self.pool self.table.lines c.args.line.place c.args.line.serial (Some c.in-Ok.record) c.in-Ok.ensures.0 self.next c.in-Ok.ensures.1 _ _ c.in-Err.ensures;
       back = refl;
       same = λ _. refl;
+      rests = tt;
+      apart = tt;
+      lines = λ h t. t;
+      sittings = λ h t. t;
     }
 
 pub branch_off-new-requires : goal.branch_off-new-requires
@@ -58,6 +67,7 @@ returns g c =
     let owned = rw pool at c.branch_off-new.ensures.owned in
     let size = rw pool at c.branch_off-new.ensures.size in
     let used = rw pool at c.branch_off-new.ensures.used in
+    let free = vacant self.table.lines self.next c.in-Ok-vacancy.place c.in-Ok-vacancy.ensures in
     record {
       told = λ s shows.
           let (s', shows', step) = branched self.pool self.table.lines c.args.line.place c.args.line.serial (Some c.in-Ok.record) c.in-Ok.ensures.0 self.next c.in-Ok.ensures.1
@@ -66,4 +76,8 @@ returns g c =
           (s', rw c.next_serial-serial.ensures.next shows', step);
       back = refl;
       same = never;
+      rests = rests-now self _ _ _ put (line_handle c.from_parts.result) c.in-Ok.record.root c.from_parts.ensures.place free.0 (ap Some (made_at _ _ _ _ (sym c.from_parts.ensures.serial) c.branch_off-new.ensures.made));
+      apart = λ e. apart-from self.table.lines c.in-Ok-vacancy.place c.args.line.place c.args.line.serial c.in-Ok.record free.1 c.in-Ok.ensures.0 (sym c.from_parts.ensures.place ∙ e);
+      lines = all-rest self _ _ _ put (free-rests _ free.1);
+      sittings = all-sit self _ _ _ put (free-sits _ free.1);
     }

@@ -1,14 +1,16 @@
-use Rattle.std.proofs.Common.{Some, sym, refl, ◌∙◌, ltb-false, ltb-true}
+use Rattle.std.proofs.Common.{ℕ, Some, sym, refl, ap, ◌∙◌, ltb-false, ltb-true}
+use Rattle.register.specs.Calls.{line_handle, sitting_handle}
 use Rattle.register.specs.Tables.{line_of, resting_record}
 use Rattle.register.proofs.Ending.{committed, insertable, kept-committed, line-carried, too_few_lem, too-high, uncommitted}
 use Rattle.register.proofs.Keeping.{the_places}
 use Rattle.register.proofs.Telling.{ghosts, never, put-at}
+use Rattle.register.proofs.Handles.{all-rest, others-sit, record-there, rests-now, sitting-no-rest, within-lines}
 use Rattle.register.proofs.register.Register.commit.Goals as goal
 
 pub returns-in_default : goal.returns-in_default
 returns-in_default g c =
     let self = c.args.self.now in
-    record { told = uncommitted self.pool self.table.lines c.args.sitting.place c.args.sitting.serial (line_of self.table.lines c.args.sitting.place c.args.sitting.serial) refl c.in_default.ensures.0 _ self.next; back = refl; kept = tt; same = λ _. refl }
+    record { told = uncommitted self.pool self.table.lines c.args.sitting.place c.args.sitting.serial (line_of self.table.lines c.args.sitting.place c.args.sitting.serial) refl c.in_default.ensures.0 _ self.next; back = refl; kept = tt; same = λ _. refl; rests = tt; lines = λ h t. t; sittings = λ h apart t. t }
 
 pub stored_height-requires : goal.stored_height-requires
 stored_height-requires g c =
@@ -19,7 +21,7 @@ stored_height-requires g c =
 pub returns-then-stored_height-gt-HIGHEST : goal.returns-then-stored_height-gt-HIGHEST
 returns-then-stored_height-gt-HIGHEST g c =
     let self = c.args.self.now in
-    record { told = too-high self.pool self.table.lines c.args.sitting.place c.args.sitting.serial (Some c.in-Ok.record) c.in-Ok.ensures.0 c.in-Ok.recorded c.in-Ok.sheet c.in-Ok.ensures.1 _ self.next c.stored_height.result c.stored_height.ensures c.if-stored_height-gt-HIGHEST.true; back = refl; kept = tt; same = λ _. refl }
+    record { told = too-high self.pool self.table.lines c.args.sitting.place c.args.sitting.serial (Some c.in-Ok.record) c.in-Ok.ensures.0 c.in-Ok.recorded c.in-Ok.sheet c.in-Ok.ensures.1 _ self.next c.stored_height.result c.stored_height.ensures c.if-stored_height-gt-HIGHEST.true; back = refl; kept = tt; same = λ _. refl; rests = tt; lines = λ h t. t; sittings = λ h apart t. t }
 
 pub returns-then-is_short : goal.returns-then-is_short
 returns-then-is_short g c =
@@ -29,6 +31,9 @@ returns-then-is_short g c =
       back = refl;
       kept = tt;
       same = λ _. refl;
+      rests = tt;
+      lines = λ h t. t;
+      sittings = λ h apart t. t;
     }
 
 pub add_stage-root-requires : goal.add_stage-root-requires
@@ -48,10 +53,15 @@ invariant_of-self g c =
 pub returns : goal.returns
 returns g c =
     let self = c.args.self.now in
+    let put = put-at self.table.lines _ _ _ _ _ c.put.ensures c.into_parts-place.ensures.place (c.resting.ensures ∙ (λ i. resting_record (c.into_parts-place.ensures.serial i) c.add_stage-root.result)) in
     record {
       told = committed self.pool self.table.lines c.args.sitting.place c.args.sitting.serial (Some c.in-Ok.record) c.in-Ok.ensures.0 c.in-Ok.recorded c.in-Ok.sheet c.in-Ok.ensures.1 c.stored_height.result c.stored_height.ensures c.if-stored_height-gt-HIGHEST.false c.available.result c.available.ensures (ltb-false _ _ (sym c.is_short.ensures ∙ c.if-is_short.false))
-          c.from.result c.from.ensures c.add_stage-root.result c.add_stage-root.new.pool _ (put-at self.table.lines _ _ _ _ _ c.put.ensures c.into_parts-place.ensures.place (c.resting.ensures ∙ (λ i. resting_record (c.into_parts-place.ensures.serial i) c.add_stage-root.result))) c.add_stage-root.ensures.owned _ self.next c.add_stage-root.ensures.appended c.add_stage-root.ensures.size;
+          c.from.result c.from.ensures c.add_stage-root.result c.add_stage-root.new.pool _ put c.add_stage-root.ensures.owned _ self.next c.add_stage-root.ensures.appended c.add_stage-root.ensures.size;
       back = tt;
       kept = λ i. record { place = (c.from_parts.ensures.place ∙ c.into_parts-place.ensures.place) i; serial = (c.from_parts.ensures.serial ∙ c.into_parts-place.ensures.serial) i };
       same = never;
+      rests = rests-now self _ _ _ put (line_handle c.from_parts.result) c.add_stage-root.result (c.from_parts.ensures.place ∙ c.into_parts-place.ensures.place) (within-lines self.table.lines _ _ (record-there self.table.lines _ _ _ c.in-Ok.ensures.0))
+          (ap (λ (n : ℕ). Some (resting_record n c.add_stage-root.result)) (sym (c.from_parts.ensures.serial ∙ c.into_parts-place.ensures.serial)));
+      lines = all-rest self _ _ _ put (sitting-no-rest self.table.lines _ _ _ _ _ c.in-Ok.ensures.0 c.in-Ok.ensures.1);
+      sittings = others-sit self _ _ _ put (sitting_handle c.args.sitting) refl;
     }

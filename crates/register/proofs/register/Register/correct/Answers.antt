@@ -12,4 +12,6 @@ returns g c =
     record {
       told = subst (λ (change : Change). Tells {N = g.row.N.Denot} (names g.N.Key.words g.N.Key.key g.N.Ord.cmp g.N.NameOrder.named g.N.NameOrder.name) c.args.self.now (enters (sitting_handle c.args.sitting.now) c.args.name.now c.args.measured change) (entry_answer c.enter.result) c.enter.new.self) made c.enter.ensures.told;
       same = c.enter.ensures.same;
+      lines = c.enter.ensures.lines;
+      sittings = c.enter.ensures.sittings;
     }

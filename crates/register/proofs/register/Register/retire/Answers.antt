@@ -3,7 +3,9 @@ use Rattle.register.proofs.Changing.{apart-resting, rests}
 use Rattle.register.proofs.Keeping.{the_places}
 use Rattle.register.proofs.Retiring.{kept-retired, retired, unretired}
 use Rattle.register.proofs.Telling.{ghosts, never}
+use Rattle.register.specs.Calls.{line_handle}
 use Rattle.register.specs.Tables.{line_of}
+use Rattle.register.proofs.Handles.{all-sit, others-rest, rest-no-sitting, taken-rest}
 use Rattle.register.proofs.register.Register.retire.Goals as goal
 
 pub returns-in_default : goal.returns-in_default
@@ -13,6 +15,9 @@ returns-in_default g c =
       told = unretired self.pool self.table.lines c.args.line.place c.args.line.serial (line_of self.table.lines c.args.line.place c.args.line.serial) refl _ self.next c.in_default.ensures.0;
       back = refl;
       same = λ _. refl;
+      accepted = taken-rest self (line_handle c.args.line) c.in_default.ensures.0;
+      lines = λ h apart t. t;
+      sittings = λ h t. t;
     }
 
 pub let_go-requires : goal.let_go-requires
@@ -33,9 +38,13 @@ invariant_of-self g c =
 pub returns : goal.returns
 returns g c =
     let self = c.args.self.now in
+    let freed = c.free.ensures ∙ ap (λ (k : ℕ). set self.table.lines k None) c.into_parts-place.ensures.place in
     record {
       told = retired self.pool self.table.lines c.args.line.place c.args.line.serial (Some c.in-Ok.record) c.in-Ok.ensures.0
-          c.let_go.new.pool c.free.new.self.lines c.in-Ok.ensures.1 c.let_go.ensures.owned (c.free.ensures ∙ ap (λ (k : ℕ). set self.table.lines k None) c.into_parts-place.ensures.place) _ self.next c.let_go.ensures.fewer c.let_go.ensures.size;
+          c.let_go.new.pool c.free.new.self.lines c.in-Ok.ensures.1 c.let_go.ensures.owned freed _ self.next c.let_go.ensures.fewer c.let_go.ensures.size;
       back = tt;
       same = never;
+      accepted = λ _. refl;
+      lines = others-rest self _ _ _ freed (line_handle c.args.line) refl;
+      sittings = all-sit self _ _ _ freed (rest-no-sitting self.table.lines _ _ _ c.in-Ok.ensures.0 c.in-Ok.ensures.1);
     }
