@@ -3,7 +3,7 @@ use Rattle.std.proofs.Common.{◌≡◌, ◌≢◌, ℕ, ◌<◌, Bool, true, fa
 use Rattle.std.proofs.lemmas.Bool.{cases_eq}
 use Rattle.std.proofs.lemmas.List.{get_or_past}
 use Rattle.register.proofs.Telling.{first-false, never}
-use Rattle.register.proofs.Vacancies.{lowest-found, place-given}
+use Rattle.register.proofs.Vacancies.{differ, lowest-found, place-given}
 use Rattle.register.specs.Calls.{Handle}
 use Rattle.register.specs.Registers.{IsAtRest, IsInSitting, Keeps, KeepsOthers}
 use Rattle.register.specs.Tables.{in_state, is_letter, line_of, lowest, resting_record, same_state, serial_in, state_in, stow_refusal, vacancy_in, with_serial}
@@ -12,9 +12,6 @@ use Rattle.register.specs.declared.register.Register.{Register}
 use Rattle.register.specs.declared.table.Record.{Record}
 use Rattle.register.specs.declared.table.State.{State}
 use Rattle.register.specs.declared.table.State.TheVariants.{AtRest, Sitting, Stowed}
-
-differ : {A : Type 0} → ◌≡◌ {A = ℕ} 0 1 → A
-differ e = absurd (omega (arith, e))
 
 -- ---- one record
 

@@ -11,7 +11,7 @@ use Rattle.register.specs.declared.refusal.Refusal.TheVariants.{LinesExhausted, 
 use Rattle.register.specs.declared.table.Record.{Record}
 use Rattle.register.specs.declared.table.State.TheVariants.{Stowed}
 
-differ : {A : Type 0} → ◌≡◌ {A = ℕ} 0 1 → A
+pub differ : {A : Type 0} → ◌≡◌ {A = ℕ} 0 1 → A
 differ e = absurd (omega (arith, e))
 
 -- ---- tests of records are tests of places

@@ -1,6 +1,6 @@
 //! Beginning, committing and abandoning sittings.
 
-ghost use Rattle.std.specs.Prelude.{◌≡◌, ◌+◌, ◌^◌, ◌<◌, ◌≤◌, true, List, ◌∷◌, length, pos, is_err, nat_lt, IfOk, IsOk};
+ghost use Rattle.std.specs.Prelude.{◌≡◌, ◌+◌, ◌^◌, ◌<◌, ◌≤◌, true, List, ◌∷◌, length, pos, is_err, nat_lt, IsOk, OnOk};
 ghost use Rattle.pool.specs.Held.{Carries, Held, Holds, held};
 ghost use Rattle.pool.specs.Sound.{memory_of, used_of};
 ghost use Rattle.pool.specs.Tree.{Tree};
@@ -116,7 +116,7 @@ impl<'m, N: NameOrder> Register<'m, N> {
         ensures back { HandsBack line result }
         ensures kept { SameSitting (line_handle line) result }
         ensures same { is_err result ≡ true → self.new ≡ self.old }
-        ensures sits { IfOk result (λ sitting. IsInSitting self.new (sitting_handle sitting)) }
+        ensures sits { OnOk result (IsInSitting self.new (line_handle line)) }
         ensures lines { KeepsOthers IsAtRest (line_handle line) self.old self.new }
         ensures sittings { Keeps IsInSitting self.old self.new }
     {
@@ -142,7 +142,7 @@ impl<'m, N: NameOrder> Register<'m, N> {
         ensures back { HandsBack sitting result }
         ensures kept { SameLine (sitting_handle sitting) result }
         ensures same { is_err result ≡ true → self.new ≡ self.old }
-        ensures rests { IfOk result (λ line. IsAtRest self.new (line_handle line)) }
+        ensures rests { OnOk result (IsAtRest self.new (sitting_handle sitting)) }
         ensures lines { Keeps IsAtRest self.old self.new }
         ensures sittings { KeepsOthers IsInSitting (sitting_handle sitting) self.old self.new }
     {
@@ -177,7 +177,7 @@ impl<'m, N: NameOrder> Register<'m, N> {
         ensures kept { SameLine (sitting_handle sitting) result }
         ensures same { is_err result ≡ true → self.new ≡ self.old }
         ensures accepted { IsInSitting self.old (sitting_handle sitting) → IsOk result }
-        ensures rests { IfOk result (λ line. IsAtRest self.new (line_handle line)) }
+        ensures rests { OnOk result (IsAtRest self.new (sitting_handle sitting)) }
         ensures lines { Keeps IsAtRest self.old self.new }
         ensures sittings { KeepsOthers IsInSitting (sitting_handle sitting) self.old self.new }
     {

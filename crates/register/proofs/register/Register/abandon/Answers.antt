@@ -1,5 +1,5 @@
-use Rattle.std.proofs.Common.{ℕ, Some, sym, refl, ap, ◌∙◌}
-use Rattle.register.specs.Calls.{line_handle, sitting_handle}
+use Rattle.std.proofs.Common.{Some, refl, ◌∙◌}
+use Rattle.register.specs.Calls.{sitting_handle}
 use Rattle.register.specs.Tables.{line_of, resting_record}
 use Rattle.register.proofs.Ending.{abandoned, kept-abandoned, seat, sheet-first, unabandoned}
 use Rattle.register.proofs.Keeping.{the_places}
@@ -48,8 +48,7 @@ returns g c =
       kept = λ i. record { place = (c.from_parts.ensures.place ∙ c.into_parts-place.ensures.place) i; serial = (c.from_parts.ensures.serial ∙ c.into_parts-place.ensures.serial) i };
       same = never;
       accepted = λ _. refl;
-      rests = rests-now self _ _ _ put (line_handle c.from_parts.result) c.in-Ok.record.root (c.from_parts.ensures.place ∙ c.into_parts-place.ensures.place) (within-lines self.table.lines _ _ (record-there self.table.lines _ _ _ c.in-Ok.ensures.0))
-          (ap (λ (n : ℕ). Some (resting_record n c.in-Ok.record.root)) (sym (c.from_parts.ensures.serial ∙ c.into_parts-place.ensures.serial)));
+      rests = rests-now self _ _ _ put (sitting_handle c.args.sitting) c.in-Ok.record.root refl (within-lines self.table.lines _ _ (record-there self.table.lines _ _ _ c.in-Ok.ensures.0)) refl;
       lines = all-rest self _ _ _ put (sitting-no-rest self.table.lines _ _ _ _ _ c.in-Ok.ensures.0 c.in-Ok.ensures.1);
       sittings = others-sit self _ _ _ put (sitting_handle c.args.sitting) refl;
     }

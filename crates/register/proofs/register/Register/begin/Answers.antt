@@ -1,12 +1,12 @@
-use Rattle.std.proofs.Common.{ℕ, sym, refl, ap, ◌∙◌, arith, Some}
+use Rattle.std.proofs.Common.{ℕ, refl, ap, arith, Some}
 use Rattle.register.proofs.Beginning.{began, kept-begun, line-ready, sheet-carried, unbegun, unlater}
 use Rattle.register.proofs.Changing.{length-places}
 use Rattle.register.proofs.Keeping.{the_places}
 use Rattle.register.proofs.Owning.{length-owners}
-use Rattle.register.proofs.Telling.{ghosts, never, put-at}
+use Rattle.register.proofs.Telling.{ghosts, put-at}
 use Rattle.register.specs.Places.{owners_of}
 use Rattle.register.proofs.Readable.{readable}
-use Rattle.register.specs.Calls.{line_handle, sitting_handle}
+use Rattle.register.specs.Calls.{line_handle}
 use Rattle.register.specs.Tables.{line_of}
 use Rattle.register.specs.declared.table.State.TheVariants.{Sitting}
 use Rattle.register.proofs.Handles.{all-sit, others-rest, record-there, rest-no-sitting, serial-there, sits-now, within-lines}
@@ -63,18 +63,24 @@ invariant_of-self g c =
     (kept-begun self.pool self.table.lines c.args.line.place c.args.line.serial (Some c.in-Ok.record) c.in-Ok.ensures.0 c.args.recorded c.in-Ok.ensures.1 c.in-Ok-sheet_before.sheet c.in-Ok-sheet_before.ensures
     c.sit_down-seated.new.pool _ (put-at self.table.lines _ _ _ _ _ c.put.ensures c.into_parts-place.ensures.place c.sit_down-seated.ensures.made) c.sit_down-seated.ensures.owned xs k)
 
-pub returns : goal.returns
-returns g c =
+pub returns-clause-told : goal.returns-clause-told
+returns-clause-told g c =
     let self = c.args.self.now in
-    let put = put-at self.table.lines _ _ _ _ _ c.put.ensures c.into_parts-place.ensures.place c.sit_down-seated.ensures.made in
-    record {
-      told = began self.pool self.table.lines c.args.line.place c.args.line.serial (Some c.in-Ok.record) c.in-Ok.ensures.0 c.args.recorded c.in-Ok.ensures.1 c.in-Ok-sheet_before.sheet c.in-Ok-sheet_before.ensures
-          c.sit_down-seated.new.pool _ put c.sit_down-seated.ensures.owned _ self.next c.sit_down-seated.ensures.size c.sit_down-seated.ensures.used;
-      back = tt;
-      kept = λ i. record { place = (c.from_parts.ensures.place ∙ c.into_parts-place.ensures.place) i; serial = (c.from_parts.ensures.serial ∙ c.into_parts-place.ensures.serial) i };
-      same = never;
-      sits = sits-now self _ _ _ put (sitting_handle c.from_parts.result) c.in-Ok.record.root c.args.recorded _ (c.from_parts.ensures.place ∙ c.into_parts-place.ensures.place) (within-lines self.table.lines _ _ (record-there self.table.lines _ _ _ c.in-Ok.ensures.0))
-          (ap (λ (n : ℕ). Some (record { serial = n; root = c.in-Ok.record.root; state = Sitting c.args.recorded c.in-Ok-sheet_before.sheet })) (serial-there self.table.lines _ _ _ c.in-Ok.ensures.0 ∙ sym (c.from_parts.ensures.serial ∙ c.into_parts-place.ensures.serial)));
-      lines = others-rest self _ _ _ put (line_handle c.args.line) refl;
-      sittings = all-sit self _ _ _ put (rest-no-sitting self.table.lines _ _ _ c.in-Ok.ensures.0 c.in-Ok.ensures.1);
-    }
+    began self.pool self.table.lines c.args.line.place c.args.line.serial (Some c.in-Ok.record) c.in-Ok.ensures.0 c.args.recorded c.in-Ok.ensures.1 c.in-Ok-sheet_before.sheet c.in-Ok-sheet_before.ensures
+    c.sit_down-seated.new.pool _ (put-at self.table.lines _ _ _ _ _ c.put.ensures c.into_parts-place.ensures.place c.sit_down-seated.ensures.made) c.sit_down-seated.ensures.owned _ self.next c.sit_down-seated.ensures.size c.sit_down-seated.ensures.used
+
+pub returns-clause-sits : goal.returns-clause-sits
+returns-clause-sits g c =
+    let self = c.args.self.now in
+    sits-now self _ _ _ (put-at self.table.lines _ _ _ _ _ c.put.ensures c.into_parts-place.ensures.place c.sit_down-seated.ensures.made) (line_handle c.args.line) c.in-Ok.record.root c.args.recorded _ refl (within-lines self.table.lines _ _ (record-there self.table.lines _ _ _ c.in-Ok.ensures.0))
+    (ap (λ (n : ℕ). Some (record { serial = n; root = c.in-Ok.record.root; state = Sitting c.args.recorded c.in-Ok-sheet_before.sheet })) (serial-there self.table.lines _ _ _ c.in-Ok.ensures.0))
+
+pub returns-clause-lines : goal.returns-clause-lines
+returns-clause-lines g c =
+    let self = c.args.self.now in
+    others-rest self _ _ _ (put-at self.table.lines _ _ _ _ _ c.put.ensures c.into_parts-place.ensures.place c.sit_down-seated.ensures.made) (line_handle c.args.line) refl
+
+pub returns-clause-sittings : goal.returns-clause-sittings
+returns-clause-sittings g c =
+    let self = c.args.self.now in
+    all-sit self _ _ _ (put-at self.table.lines _ _ _ _ _ c.put.ensures c.into_parts-place.ensures.place c.sit_down-seated.ensures.made) (rest-no-sitting self.table.lines _ _ _ c.in-Ok.ensures.0 c.in-Ok.ensures.1)
