@@ -1,10 +1,10 @@
 -- What a call on a register tells: whatever the register shows before it, the call is a step from there to what it shows after it.
-use Rattle.std.specs.Prelude.{◌≡◌, ◌≢◌, ℕ, true, Some, Ok, Err, Result}
+use Rattle.std.specs.Prelude.{◌≡◌, ◌≢◌, ℕ, Some, Ok, Err, Result}
 use Rattle.register.specs.Calls.{Answer, Call, Handle, Line, Sitting, line_handle, sitting_handle}
 use Rattle.register.specs.Contents.{Names}
 use Rattle.register.specs.Shown.{Shown, Shows}
 use Rattle.register.specs.Steps.{Step}
-use Rattle.register.specs.Tables.{in_state, line_of, state_in}
+use Rattle.register.specs.Tables.{line_of, state_in}
 use Rattle.register.specs.declared.handle.Refused.{Refused}
 use Rattle.register.specs.declared.register.Register.{Register}
 use Rattle.register.specs.declared.table.State.TheVariants.{AtRest, Sitting as seated_at}
@@ -41,7 +41,7 @@ SameLine handle (Err e) = Unit {0}
 
 -- a line at rest has the handle; a line in a sitting has it
 unfoldable pub IsAtRest : {N : Type 0} → Register N → Handle → Type 0
-IsAtRest r h = in_state AtRest (line_of r.table.lines h.place h.serial) ≡ true
+IsAtRest r h = state_in (line_of r.table.lines h.place h.serial) ≡ Some AtRest
 
 unfoldable pub IsInSitting : {N : Type 0} → Register N → Handle → Type 0
 IsInSitting r h = (recorded : ℕ) × (sheet : ℕ) × (state_in (line_of r.table.lines h.place h.serial) ≡ Some (seated_at recorded sheet))

@@ -1,10 +1,10 @@
-use Rattle.std.proofs.Common.{Some, refl, ◌∙◌}
+use Rattle.std.proofs.Common.{Some, refl, ◌∙◌, ap}
 use Rattle.register.specs.Calls.{sitting_handle}
 use Rattle.register.specs.Tables.{line_of, resting_record}
 use Rattle.register.proofs.Ending.{abandoned, kept-abandoned, seat, sheet-first, unabandoned}
 use Rattle.register.proofs.Keeping.{the_places}
 use Rattle.register.proofs.Telling.{ghosts, never, put-at}
-use Rattle.register.proofs.Handles.{all-rest, others-sit, record-there, rests-now, sitting-no-rest, taken-sitting, within-lines}
+use Rattle.register.proofs.Handles.{all-rest, others-sit, record-there, refused-sitting, rests, rests-now, state-of-sitting, within-lines}
 use Rattle.register.proofs.register.Register.abandon.Goals as goal
 
 pub returns-in_default : goal.returns-in_default
@@ -15,7 +15,7 @@ returns-in_default g c =
       back = refl;
       kept = tt;
       same = λ _. refl;
-      accepted = λ t. absurd (taken-sitting self (sitting_handle c.args.sitting) c.in_default.ensures.0 t);
+      accepted = λ t. absurd (refused-sitting self (sitting_handle c.args.sitting) c.in_default.ensures.0 t);
       rests = tt;
       lines = λ h t. t;
       sittings = λ h apart t. t;
@@ -48,7 +48,7 @@ returns g c =
       kept = λ i. record { place = (c.from_parts.ensures.place ∙ c.into_parts-place.ensures.place) i; serial = (c.from_parts.ensures.serial ∙ c.into_parts-place.ensures.serial) i };
       same = never;
       accepted = λ _. refl;
-      rests = rests-now self _ _ _ put (sitting_handle c.args.sitting) c.in-Ok.record.root refl (within-lines self.table.lines _ _ (record-there self.table.lines _ _ _ c.in-Ok.ensures.0)) refl;
-      lines = all-rest self _ _ _ put (sitting-no-rest self.table.lines _ _ _ _ _ c.in-Ok.ensures.0 c.in-Ok.ensures.1);
+      rests = rests-now self _ _ _ put (sitting_handle c.args.sitting) c.in-Ok.record.root refl (within-lines self.table.lines _ _ (record-there self.table.lines _ _ _ c.in-Ok.ensures.0).0) refl;
+      lines = all-rest self _ _ _ put (ap rests (state-of-sitting self.table.lines _ _ _ _ _ c.in-Ok.ensures.0 c.in-Ok.ensures.1));
       sittings = others-sit self _ _ _ put (sitting_handle c.args.sitting) refl;
     }

@@ -1,4 +1,4 @@
-use Rattle.std.proofs.Common.{ℕ, refl, ap, arith, Some}
+use Rattle.std.proofs.Common.{refl, ap, arith, Some}
 use Rattle.register.proofs.Beginning.{began, kept-begun, line-ready, sheet-carried, unbegun, unlater}
 use Rattle.register.proofs.Changing.{length-places}
 use Rattle.register.proofs.Keeping.{the_places}
@@ -8,8 +8,7 @@ use Rattle.register.specs.Places.{owners_of}
 use Rattle.register.proofs.Readable.{readable}
 use Rattle.register.specs.Calls.{line_handle}
 use Rattle.register.specs.Tables.{line_of}
-use Rattle.register.specs.declared.table.State.TheVariants.{Sitting}
-use Rattle.register.proofs.Handles.{all-sit, others-rest, record-there, rest-no-sitting, serial-there, sits-now, within-lines}
+use Rattle.register.proofs.Handles.{all-sit, others-rest, record-there, sits, sits-now, state-of-rest, within-lines}
 use Rattle.register.proofs.register.Register.begin.Goals as goal
 
 pub returns-in_default : goal.returns-in_default
@@ -72,8 +71,8 @@ returns-clause-told g c =
 pub returns-clause-sits : goal.returns-clause-sits
 returns-clause-sits g c =
     let self = c.args.self.now in
-    sits-now self _ _ _ (put-at self.table.lines _ _ _ _ _ c.put.ensures c.into_parts-place.ensures.place c.sit_down-seated.ensures.made) (line_handle c.args.line) c.in-Ok.record.root c.args.recorded _ refl (within-lines self.table.lines _ _ (record-there self.table.lines _ _ _ c.in-Ok.ensures.0))
-    (ap (λ (n : ℕ). Some (record { serial = n; root = c.in-Ok.record.root; state = Sitting c.args.recorded c.in-Ok-sheet_before.sheet })) (serial-there self.table.lines _ _ _ c.in-Ok.ensures.0))
+    let there = record-there self.table.lines c.args.line.place c.args.line.serial c.in-Ok.record c.in-Ok.ensures.0 in
+    sits-now self _ _ _ (put-at self.table.lines _ _ _ _ _ c.put.ensures c.into_parts-place.ensures.place c.sit_down-seated.ensures.made) (line_handle c.args.line) c.in-Ok.record c.args.recorded _ refl (within-lines self.table.lines _ _ there.0) there.1 refl
 
 pub returns-clause-lines : goal.returns-clause-lines
 returns-clause-lines g c =
@@ -83,4 +82,4 @@ returns-clause-lines g c =
 pub returns-clause-sittings : goal.returns-clause-sittings
 returns-clause-sittings g c =
     let self = c.args.self.now in
-    all-sit self _ _ _ (put-at self.table.lines _ _ _ _ _ c.put.ensures c.into_parts-place.ensures.place c.sit_down-seated.ensures.made) (rest-no-sitting self.table.lines _ _ _ c.in-Ok.ensures.0 c.in-Ok.ensures.1)
+    all-sit self _ _ _ (put-at self.table.lines _ _ _ _ _ c.put.ensures c.into_parts-place.ensures.place c.sit_down-seated.ensures.made) (ap sits (state-of-rest self.table.lines _ _ _ c.in-Ok.ensures.0 c.in-Ok.ensures.1))

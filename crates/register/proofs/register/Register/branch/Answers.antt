@@ -7,7 +7,7 @@ use Rattle.register.proofs.Owning.{length-owners}
 use Rattle.register.proofs.Telling.{ghosts, made_at, never, put-at}
 use Rattle.register.specs.Places.{owners_of}
 use Rattle.register.specs.Tables.{line_of}
-use Rattle.register.proofs.Handles.{all-rest, all-sit, apart-from, free-rests, free-sits, rests-now, vacant}
+use Rattle.register.proofs.Handles.{all-rest, all-sit, apart-from, record-there, rests, rests-now, sits, vacant}
 use Rattle.register.proofs.register.Register.branch.Goals as goal
 
 pub returns-in_default : goal.returns-in_default
@@ -77,7 +77,7 @@ returns g c =
       back = refl;
       same = never;
       rests = rests-now self _ _ _ put (line_handle c.from_parts.result) c.in-Ok.record.root c.from_parts.ensures.place free.0 (ap Some (made_at _ _ _ _ (sym c.from_parts.ensures.serial) c.branch_off-new.ensures.made));
-      apart = λ e. apart-from self.table.lines c.in-Ok-vacancy.place c.args.line.place c.args.line.serial c.in-Ok.record free.1 c.in-Ok.ensures.0 (sym c.from_parts.ensures.place ∙ e);
-      lines = all-rest self _ _ _ put (free-rests _ free.1);
-      sittings = all-sit self _ _ _ put (free-sits _ free.1);
+      apart = λ e. apart-from self.table.lines c.in-Ok-vacancy.place c.args.line.place c.in-Ok.record free.1 (record-there self.table.lines _ _ _ c.in-Ok.ensures.0).0 (sym c.from_parts.ensures.place ∙ e);
+      lines = all-rest self _ _ _ put (ap rests free.2);
+      sittings = all-sit self _ _ _ put (ap sits free.2);
     }

@@ -1,10 +1,10 @@
-use Rattle.std.proofs.Common.{Some, sym, refl, ◌∙◌, ltb-false, ltb-true}
+use Rattle.std.proofs.Common.{Some, sym, refl, ◌∙◌, ltb-false, ltb-true, ap}
 use Rattle.register.specs.Calls.{sitting_handle}
 use Rattle.register.specs.Tables.{line_of, resting_record}
 use Rattle.register.proofs.Ending.{committed, insertable, kept-committed, line-carried, too_few_lem, too-high, uncommitted}
 use Rattle.register.proofs.Keeping.{the_places}
 use Rattle.register.proofs.Telling.{ghosts, never, put-at}
-use Rattle.register.proofs.Handles.{all-rest, others-sit, record-there, rests-now, sitting-no-rest, within-lines}
+use Rattle.register.proofs.Handles.{all-rest, others-sit, record-there, rests, rests-now, state-of-sitting, within-lines}
 use Rattle.register.proofs.register.Register.commit.Goals as goal
 
 pub returns-in_default : goal.returns-in_default
@@ -60,7 +60,7 @@ returns g c =
       back = tt;
       kept = λ i. record { place = (c.from_parts.ensures.place ∙ c.into_parts-place.ensures.place) i; serial = (c.from_parts.ensures.serial ∙ c.into_parts-place.ensures.serial) i };
       same = never;
-      rests = rests-now self _ _ _ put (sitting_handle c.args.sitting) c.add_stage-root.result refl (within-lines self.table.lines _ _ (record-there self.table.lines _ _ _ c.in-Ok.ensures.0)) refl;
-      lines = all-rest self _ _ _ put (sitting-no-rest self.table.lines _ _ _ _ _ c.in-Ok.ensures.0 c.in-Ok.ensures.1);
+      rests = rests-now self _ _ _ put (sitting_handle c.args.sitting) c.add_stage-root.result refl (within-lines self.table.lines _ _ (record-there self.table.lines _ _ _ c.in-Ok.ensures.0).0) refl;
+      lines = all-rest self _ _ _ put (ap rests (state-of-sitting self.table.lines _ _ _ _ _ c.in-Ok.ensures.0 c.in-Ok.ensures.1));
       sittings = others-sit self _ _ _ put (sitting_handle c.args.sitting) refl;
     }

@@ -10,7 +10,7 @@ use Rattle.register.specs.Places.{owners_of}
 use Rattle.register.specs.Registers.{Tells}
 use Rattle.register.specs.Tables.{line_of}
 use Rattle.register.specs.declared.refusal.Refusal.{Refusal}
-use Rattle.register.proofs.Handles.{all-rest, record-there, sits-on, sitting-no-rest}
+use Rattle.register.proofs.Handles.{all-rest, record-there, rests, sits-on, state-of-sitting}
 use Rattle.register.proofs.register.Register.enter.Goals as goal
 
 pub returns-in_err-record : goal.returns-in_err-record
@@ -97,6 +97,6 @@ returns g c =
     record {
       told = made self.pool self.table.lines c.args.sitting.now.place c.args.sitting.now.serial (Some c.in_ok-record.record) c.in_ok-record.ensures.0 self.next c.args.name.now c.args.measured c.args.change c.in_ok-record.recorded c.in_ok-record.sheet c.in_ok-record.ensures.1 c.in_ok-name.ensures.0 c.in_ok-reading.ensures.0 (kind_of g.met.N.Key g.met.N.Ord.total) g.N.NameOrder.named g.N.NameOrder.name (ltb-false _ _ (sym c.is_late.ensures ∙ c.if-is_late.false)) c.from-measured.result c.from-measured.ensures c.from_name-name.result (c.from_name-name.ensures ∙ ap g.N.NameOrder.named c.in_ok-name.ensures.1) c.in_ok-card.ensures.declined c.change_sheet-sheet.result c.change_sheet-sheet.new.pool _ put (λ t hs. c.change_sheet-sheet.ensures.owned c.args.change t hs c.in_ok-reading.ensures.1) c.change_sheet-sheet.ensures.used c.change_sheet-sheet.ensures.size;
       same = never;
-      lines = all-rest self _ _ _ put (sitting-no-rest self.table.lines _ _ _ _ _ c.in_ok-record.ensures.0 c.in_ok-record.ensures.1);
-      sittings = sits-on self _ _ _ put c.in_ok-record.record c.in_ok-record.recorded c.change_sheet-sheet.result (record-there self.table.lines _ _ _ c.in_ok-record.ensures.0) refl;
+      lines = all-rest self _ _ _ put (ap rests (state-of-sitting self.table.lines _ _ _ _ _ c.in_ok-record.ensures.0 c.in_ok-record.ensures.1));
+      sittings = sits-on self _ _ _ put c.in_ok-record.record c.in_ok-record.recorded c.change_sheet-sheet.result (record-there self.table.lines _ _ _ c.in_ok-record.ensures.0).0 refl;
     }

@@ -8,7 +8,7 @@ use Rattle.register.proofs.Shelving.{empty-shelf, fetched, kept-fetched}
 use Rattle.register.proofs.Telling.{ghosts, made_at, never, put-at}
 use Rattle.register.specs.declared.refusal.Refusal.{Refusal}
 use Rattle.register.specs.declared.refusal.Refusal.TheVariants.{ShelfEmpty}
-use Rattle.register.proofs.Handles.{all-rest, all-sit, rests-now, shelf-no-rest, shelf-no-sitting, within-lines}
+use Rattle.register.proofs.Handles.{all-rest, all-sit, rests-now, shelf-apart, within-lines}
 use Rattle.register.proofs.register.Register.fetch.Goals as goal
 
 pub returns-in_err-place : goal.returns-in_err-place
@@ -37,12 +37,13 @@ invariant_of-self g c =
 pub returns : goal.returns
 returns g c =
     let self = c.args.self.now in
+    let apart = shelf-apart self.table.lines c.args.letter c.in_ok-place.place (search rules) in
     record {
       told = fetched self.pool self.table.lines c.args.letter c.in_ok-place.place (search rules) c.in_ok-place.record (search rules) _
           (put-at self.table.lines _ _ _ _ _ c.put.ensures refl c.rested.ensures) _ self.next (sym c.is_ascii_uppercase.ensures.value ∙ c.if-not-is_ascii_uppercase.false) _
           (λ i. handed (record { place = c.from_parts.ensures.place i; serial = c.from_parts.ensures.serial i }));
       same = never;
       rests = rests-now self _ _ _ c.put.ensures (line_handle c.from_parts.result) c.in_ok-place.record.root c.from_parts.ensures.place (within-lines self.table.lines c.in_ok-place.place c.in_ok-place.record (search rules)) (ap Some (made_at _ _ _ _ (sym c.from_parts.ensures.serial) c.rested.ensures));
-      lines = all-rest self _ _ _ c.put.ensures (shelf-no-rest self.table.lines c.args.letter c.in_ok-place.place (search rules));
-      sittings = all-sit self _ _ _ c.put.ensures (shelf-no-sitting self.table.lines c.args.letter c.in_ok-place.place (search rules));
+      lines = all-rest self _ _ _ c.put.ensures apart.0;
+      sittings = all-sit self _ _ _ c.put.ensures apart.1;
     }

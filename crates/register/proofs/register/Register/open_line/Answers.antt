@@ -6,7 +6,7 @@ use Rattle.register.proofs.Passing.{passed}
 use Rattle.register.proofs.Keeping.{the_places}
 use Rattle.register.proofs.Opening.{kept-opened, opened, unopened}
 use Rattle.register.proofs.Telling.{ghosts, made_at, never, put-at}
-use Rattle.register.proofs.Handles.{all-rest, all-sit, free-rests, free-sits, rests-now, vacant}
+use Rattle.register.proofs.Handles.{all-rest, all-sit, rests, rests-now, sits, vacant}
 use Rattle.register.proofs.register.Register.open_line.Goals as goal
 
 pub returns-in_err-place : goal.returns-in_err-place
@@ -41,6 +41,6 @@ returns g c =
           (s', rw (pool, c.next_serial-serial.ensures.next) shows', step);
       same = never;
       rests = rests-now self _ _ _ put (line_handle c.from_parts.result) 0 c.from_parts.ensures.place free.0 (ap Some (made_at _ _ _ 0 (sym c.from_parts.ensures.serial) c.resting.ensures));
-      lines = all-rest self _ _ _ put (free-rests _ free.1);
-      sittings = all-sit self _ _ _ put (free-sits _ free.1);
+      lines = all-rest self _ _ _ put (ap rests free.2);
+      sittings = all-sit self _ _ _ put (ap sits free.2);
     }

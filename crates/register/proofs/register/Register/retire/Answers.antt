@@ -5,7 +5,7 @@ use Rattle.register.proofs.Retiring.{kept-retired, retired, unretired}
 use Rattle.register.proofs.Telling.{ghosts, never}
 use Rattle.register.specs.Calls.{line_handle}
 use Rattle.register.specs.Tables.{line_of}
-use Rattle.register.proofs.Handles.{all-sit, others-rest, rest-no-sitting, taken-rest}
+use Rattle.register.proofs.Handles.{all-sit, others-rest, refused-rest, sits, state-of-rest}
 use Rattle.register.proofs.register.Register.retire.Goals as goal
 
 pub returns-in_default : goal.returns-in_default
@@ -15,7 +15,7 @@ returns-in_default g c =
       told = unretired self.pool self.table.lines c.args.line.place c.args.line.serial (line_of self.table.lines c.args.line.place c.args.line.serial) refl _ self.next c.in_default.ensures.0;
       back = refl;
       same = λ _. refl;
-      accepted = taken-rest self (line_handle c.args.line) c.in_default.ensures.0;
+      accepted = refused-rest self (line_handle c.args.line) c.in_default.ensures.0;
       lines = λ h apart t. t;
       sittings = λ h t. t;
     }
@@ -46,5 +46,5 @@ returns g c =
       same = never;
       accepted = λ _. refl;
       lines = others-rest self _ _ _ freed (line_handle c.args.line) refl;
-      sittings = all-sit self _ _ _ freed (rest-no-sitting self.table.lines _ _ _ c.in-Ok.ensures.0 c.in-Ok.ensures.1);
+      sittings = all-sit self _ _ _ freed (ap sits (state-of-rest self.table.lines _ _ _ c.in-Ok.ensures.0 c.in-Ok.ensures.1));
     }

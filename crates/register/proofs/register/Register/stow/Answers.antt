@@ -1,10 +1,10 @@
-use Rattle.std.proofs.Common.{Some, refl}
+use Rattle.std.proofs.Common.{Some, refl, ap}
 use Rattle.register.proofs.Keeping.{the_places}
 use Rattle.register.proofs.Shelving.{kept-stowed, stowed-on, unstowed}
 use Rattle.register.proofs.Telling.{ghosts, never, put-at}
 use Rattle.register.specs.Calls.{line_handle}
 use Rattle.register.specs.Tables.{line_of}
-use Rattle.register.proofs.Handles.{all-sit, others-rest, rest-no-sitting, stowable-rests}
+use Rattle.register.proofs.Handles.{all-sit, others-rest, sits, state-of-rest, stowable-rests}
 use Rattle.register.proofs.register.Register.stow.Goals as goal
 
 pub returns-in-Err : goal.returns-in-Err
@@ -36,5 +36,5 @@ returns g c =
       back = tt;
       same = never;
       lines = others-rest self _ _ _ put (line_handle c.args.line) refl;
-      sittings = all-sit self _ _ _ put (rest-no-sitting self.table.lines _ _ _ c.in-Ok.ensures.0 (stowable-rests self.table.lines (Some c.in-Ok.record) c.args.letter c.in-Ok.ensures.1));
+      sittings = all-sit self _ _ _ put (ap sits (state-of-rest self.table.lines _ _ _ c.in-Ok.ensures.0 (stowable-rests self.table.lines (Some c.in-Ok.record) c.args.letter c.in-Ok.ensures.1)));
     }
