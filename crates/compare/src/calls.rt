@@ -3,6 +3,7 @@
 
 use kinds::NameOrder;
 use naive::{Change, Entry, Failure, Handle, Total};
+use register::Call::{Ask, Do};
 use register::{Action, Parts, Question, Register, Reply};
 use std::alloc::AllocError;
 
@@ -93,29 +94,24 @@ fn next_name(handle: Handle, recorded: u32, after: Option<&'static [u8]>) -> Que
 
 /// The call as the proved register takes it.
 fn plain(call: Call) -> register::Call<'static> {
-    let action = match call {
+    match call {
+        Call::Open => Do(Action::Open),
+        Call::Fetch(shelf) => Do(Action::Fetch(shelf)),
+        Call::Branch(handle) => Do(Action::Branch(parts_of(handle))),
+        Call::Stow(handle, shelf) => Do(Action::Stow(parts_of(handle), shelf)),
+        Call::Retire(handle) => Do(Action::Retire(parts_of(handle))),
+        Call::Begin(handle, recorded) => Do(Action::Begin(parts_of(handle), recorded)),
+        Call::Enter(handle, entry) => Do(entry_of(handle, entry)),
+        Call::Commit(handle) => Do(Action::Commit(parts_of(handle))),
+        Call::Abandon(handle) => Do(Action::Abandon(parts_of(handle))),
         Call::AsOf(handle, recorded, name, measured) => {
-            let question = Question::AsOf(parts_of(handle), recorded, name, measured);
-            return register::Call::Ask(question);
+            Ask(Question::AsOf(parts_of(handle), recorded, name, measured))
         }
         Call::Total(handle, recorded, name, from, to) => {
-            let question = Question::Total(parts_of(handle), recorded, name, from, to);
-            return register::Call::Ask(question);
+            Ask(Question::Total(parts_of(handle), recorded, name, from, to))
         }
-        Call::NextName(handle, recorded, after) => {
-            return register::Call::Ask(next_name(handle, recorded, after));
-        }
-        Call::Open => Action::Open,
-        Call::Fetch(shelf) => Action::Fetch(shelf),
-        Call::Branch(handle) => Action::Branch(parts_of(handle)),
-        Call::Stow(handle, shelf) => Action::Stow(parts_of(handle), shelf),
-        Call::Retire(handle) => Action::Retire(parts_of(handle)),
-        Call::Begin(handle, recorded) => Action::Begin(parts_of(handle), recorded),
-        Call::Enter(handle, made) => entry_of(handle, made),
-        Call::Commit(handle) => Action::Commit(parts_of(handle)),
-        Call::Abandon(handle) => Action::Abandon(parts_of(handle)),
-    };
-    register::Call::Do(action)
+        Call::NextName(handle, recorded, after) => Ask(next_name(handle, recorded, after)),
+    }
 }
 
 /// What the proved register gives, in the terms of the comparison.
@@ -139,8 +135,8 @@ fn answer_of(reply: Reply) -> Answer {
 /// How the proved register answers.
 pub fn call_proved<N: NameOrder>(register: &mut Register<'_, N>, call: Call) -> Outcome {
     let answered = match plain(call) {
-        register::Call::Do(action) => register.perform(action),
-        register::Call::Ask(question) => register.ask(question),
+        Do(action) => register.perform(action),
+        Ask(question) => register.ask(question),
     };
     match answered {
         Ok(reply) => Ok(answer_of(reply)),

@@ -56,18 +56,20 @@ impl Question {
         }
     }
 
-    /// A question of a round to a line.
-    fn to(self, line: Parts, plan: Plan, i: u32) -> register::Question<'static> {
+    /// A question of a round to a line, as a plain value.
+    fn plain(self, line: Parts, plan: Plan, i: u32) -> register::Question<'static> {
         let generator = load::generator(i);
-        let (from, to) = match self {
+        let last = plan.last();
+        match self {
             Question::AsOf => {
-                let measured = plan.between(i);
-                return register::Question::AsOf(line, plan.known(i), generator, measured);
+                register::Question::AsOf(line, plan.known(i), generator, plan.between(i))
             }
-            Question::ShortTotal => plan.short_span(i),
-            Question::WholeTotal => (0, plan.last()),
-        };
-        register::Question::Total(line, plan.last(), generator, from, to)
+            Question::ShortTotal => {
+                let (from, to) = plan.short_span(i);
+                register::Question::Total(line, last, generator, from, to)
+            }
+            Question::WholeTotal => register::Question::Total(line, last, generator, 0, last),
+        }
     }
 }
 
@@ -137,7 +139,7 @@ pub fn ask_all(
 ) -> Result<i64, Refusal> {
     let mut answers = 0i64;
     for i in 0..question.count() {
-        let reply = register.ask(question.to(line, plan, i))?;
+        let reply = register.ask(question.plain(line, plan, i))?;
         answers = answers.wrapping_add(added(reply));
     }
     Ok(answers)
