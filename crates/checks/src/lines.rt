@@ -2,27 +2,26 @@
 
 use kinds::Name;
 use pool::Node;
-use register::{Line, Refusal, Refused, Register};
+use register::{Action, Parts, Refusal, Register, Reply};
 use std::test::Fail;
 
-/// Opens a line and gives its handle's numbers.
-fn open_line(register: &mut Register<'_, Name>) -> Result<(u32, u32), Refusal> {
-    register.open_line().map(Line::into_parts)
+/// Opens a line, and gives its place and serial; none where the call gives something else.
+fn open_line(register: &mut Register<'_, Name>) -> Result<Option<(u32, u32)>, Refusal> {
+    match register.perform(Action::Open)? {
+        Reply::Handed(Parts { place, serial }) => Ok(Some((place, serial))),
+        _ => Ok(None),
+    }
 }
 
 /// Stows the line of this handle, or gives the number of the refusal.
 fn stow(register: &mut Register<'_, Name>, place: u32, serial: u32, letter: u8) -> Result<(), u8> {
-    register
-        .stow(Line::from_parts(place, serial), letter)
-        .map_err(|Refused { handle, why }| {
-            let _ = handle.into_parts();
-            u8::from(why)
-        })
+    register.perform(Action::Stow(Parts { place, serial }, letter))?;
+    Ok(())
 }
 
 /// Fetches the line of the shelf, or gives the number of the refusal.
 fn fetch(register: &mut Register<'_, Name>, letter: u8) -> Result<(), u8> {
-    let _ = register.fetch(letter)?.into_parts();
+    register.perform(Action::Fetch(letter))?;
     Ok(())
 }
 
@@ -31,7 +30,7 @@ fn sixty_four_lines_are_given(rt: HostRuntime) -> Result<(), Fail> {
     let mut nodes = [Node::default(); 4];
     let mut register: Register<'_, Name> = Register::new(&mut nodes, 10);
     for place in 0..64u32 {
-        assert_eq!(rt; open_line(&mut register)?, (place, 10 + place));
+        assert_eq!(rt; open_line(&mut register)?, Some((place, 10 + place)));
     }
     assert_eq!(rt; open_line(&mut register), Err(Refusal::LinesExhausted));
     assert_eq!(rt; register.tally().lines, 64);
@@ -42,7 +41,7 @@ fn sixty_four_lines_are_given(rt: HostRuntime) -> Result<(), Fail> {
 fn serials_end(rt: HostRuntime) -> Result<(), Fail> {
     let mut nodes = [Node::default(); 4];
     let mut register: Register<'_, Name> = Register::new(&mut nodes, 4294967294);
-    assert_eq!(rt; open_line(&mut register)?, (0, 4294967294));
+    assert_eq!(rt; open_line(&mut register)?, Some((0, 4294967294)));
     assert_eq!(rt; open_line(&mut register), Err(Refusal::SerialsExhausted));
     let mut others = [Node::default(); 4];
     let mut register: Register<'_, Name> = Register::new(&mut others, 4294967295);
@@ -54,7 +53,7 @@ fn serials_end(rt: HostRuntime) -> Result<(), Fail> {
 fn handles_fit_one_line_in_one_state(rt: HostRuntime) -> Result<(), Fail> {
     let mut nodes = [Node::default(); 4];
     let mut register: Register<'_, Name> = Register::new(&mut nodes, 1);
-    assert_eq!(rt; open_line(&mut register)?, (0, 1));
+    assert_eq!(rt; open_line(&mut register)?, Some((0, 1)));
     assert_eq!(rt; stow(&mut register, 0, 2, b'A'), Err(1), "another serial");
     assert_eq!(rt; stow(&mut register, 1, 1, b'A'), Err(1), "another place");
     assert_eq!(rt; stow(&mut register, 64, 1, b'A'), Err(1), "no place");
@@ -70,7 +69,7 @@ fn handles_fit_one_line_in_one_state(rt: HostRuntime) -> Result<(), Fail> {
     );
     assert_eq!(rt; stow(&mut register, 0, 1, b'Z'), Ok(()));
     assert_eq!(rt; stow(&mut register, 0, 1, b'A'), Err(1), "stowed already");
-    assert_eq!(rt; open_line(&mut register)?, (1, 2));
+    assert_eq!(rt; open_line(&mut register)?, Some((1, 2)));
     assert_eq!(rt; stow(&mut register, 1, 2, b'Z'), Err(13));
     assert_eq!(rt; fetch(&mut register, b'z'), Err(12));
     assert_eq!(rt; fetch(&mut register, b'A'), Err(14));

@@ -1,8 +1,10 @@
-//! The calls of a register, and how each of the two registers answers them.
+//! The calls of a register, and how each of the two registers answers them. The proved one is given them as plain
+//! values, which may have the numbers of any handle.
 
 use kinds::NameOrder;
 use naive::{Change, Entry, Failure, Handle, Total};
-use register::{Line, Refusal, Refused, Register, Sitting};
+use register::Call::{Ask, Do};
+use register::{Action, Parts, Question, Register, Reply};
 use std::alloc::AllocError;
 
 const LONGEST_NAME: usize = 16;
@@ -31,22 +33,21 @@ pub struct Text {
     length: usize,
 }
 
+/// What an accepted call gives.
 #[derive(Clone, Copy, Debug, PartialEq, Eq)]
 pub enum Answer {
     Done,
+    /// The handle of a line that was opened, branched off or fetched.
     Handle(Handle),
-    Handles(Handle, Handle),
     Reading(Option<(u32, i64)>),
     Total(Total),
     Name(Option<Text>),
+    /// A tally, which plain lists cannot give.
+    Tally,
 }
 
-/// The number of a refusal, and the handle that came back with it, where the call had taken one.
-#[derive(Clone, Copy, Debug, PartialEq, Eq)]
-pub struct Declined {
-    pub number: u8,
-    pub handle: Option<Handle>,
-}
+/// What a call gives, or the number of its refusal.
+pub type Outcome = Result<Answer, u8>;
 
 impl Text {
     fn of(name: &[u8]) -> Text {
@@ -61,171 +62,85 @@ impl Text {
     }
 }
 
-fn line(handle: Handle) -> Line {
-    Line::from_parts(handle.place, handle.serial)
-}
-
-fn sitting(handle: Handle) -> Sitting {
-    Sitting::from_parts(handle.place, handle.serial)
-}
-
-fn numbers<S>(handle: register::Handle<S>) -> Handle {
-    let (place, serial) = handle.into_parts();
-    Handle { place, serial }
-}
-
-fn refused_with(why: Refusal) -> Declined {
-    Declined {
-        number: u8::from(why),
-        handle: None,
+impl Call {
+    pub fn is_question(self) -> bool {
+        matches!(self, Call::AsOf(..) | Call::Total(..) | Call::NextName(..))
     }
 }
 
-fn given_back<S>(refused: Refused<register::Handle<S>>) -> Declined {
-    let Refused { handle, why } = refused;
-    Declined {
-        number: u8::from(why),
-        handle: Some(numbers(handle)),
+/// The handle's numbers, as the proved register takes them.
+fn parts_of(handle: Handle) -> Parts {
+    Parts {
+        place: handle.place,
+        serial: handle.serial,
     }
 }
 
-/// The answer of a call that gives a line or a sitting for another.
-fn handed<S, T>(
-    outcome: Result<register::Handle<S>, Refused<register::Handle<T>>>,
-) -> Result<Answer, Declined> {
-    match outcome {
-        Ok(handle) => Ok(Answer::Handle(numbers(handle))),
-        Err(refused) => Err(given_back(refused)),
+fn entry_of(handle: Handle, entry: Entry<'static>) -> Action<'static> {
+    let change = match entry.change {
+        Change::Record(microhertz) => register::Change::Record(microhertz),
+        Change::Correct(microhertz) => register::Change::Correct(microhertz),
+        Change::Withdraw => register::Change::Withdraw,
+    };
+    Action::Enter(parts_of(handle), entry.name, entry.measured, change)
+}
+
+fn next_name(handle: Handle, recorded: u32, after: Option<&'static [u8]>) -> Question<'static> {
+    match after {
+        Some(name) => Question::NextName(parts_of(handle), recorded, name),
+        None => Question::FirstName(parts_of(handle), recorded),
     }
 }
 
-/// The answer of a call that gives a line for no other.
-fn given(outcome: Result<Line, Refusal>) -> Result<Answer, Declined> {
-    match outcome {
-        Ok(handle) => Ok(Answer::Handle(numbers(handle))),
-        Err(why) => Err(refused_with(why)),
+/// The call as the proved register takes it.
+fn plain(call: Call) -> register::Call<'static> {
+    match call {
+        Call::Open => Do(Action::Open),
+        Call::Fetch(shelf) => Do(Action::Fetch(shelf)),
+        Call::Branch(handle) => Do(Action::Branch(parts_of(handle))),
+        Call::Stow(handle, shelf) => Do(Action::Stow(parts_of(handle), shelf)),
+        Call::Retire(handle) => Do(Action::Retire(parts_of(handle))),
+        Call::Begin(handle, recorded) => Do(Action::Begin(parts_of(handle), recorded)),
+        Call::Enter(handle, entry) => Do(entry_of(handle, entry)),
+        Call::Commit(handle) => Do(Action::Commit(parts_of(handle))),
+        Call::Abandon(handle) => Do(Action::Abandon(parts_of(handle))),
+        Call::AsOf(handle, recorded, name, measured) => {
+            Ask(Question::AsOf(parts_of(handle), recorded, name, measured))
+        }
+        Call::Total(handle, recorded, name, from, to) => {
+            Ask(Question::Total(parts_of(handle), recorded, name, from, to))
+        }
+        Call::NextName(handle, recorded, after) => Ask(next_name(handle, recorded, after)),
     }
 }
 
-/// The answer of a call that takes a line for good.
-fn taken(outcome: Result<(), Refused<Line>>) -> Result<Answer, Declined> {
-    match outcome {
-        Ok(()) => Ok(Answer::Done),
-        Err(refused) => Err(given_back(refused)),
-    }
-}
-
-fn branched(outcome: Result<(Line, Line), Refused<Line>>) -> Result<Answer, Declined> {
-    match outcome {
-        Ok((old, new)) => Ok(Answer::Handles(numbers(old), numbers(new))),
-        Err(refused) => Err(given_back(refused)),
+/// What the proved register gives, in the terms of the comparison.
+fn answer_of(reply: Reply) -> Answer {
+    match reply {
+        Reply::Done => Answer::Done,
+        Reply::Handed(Parts { place, serial }) => Answer::Handle(Handle { place, serial }),
+        Reply::Counted(_) => Answer::Tally,
+        Reply::Found(found) => Answer::Reading(found.map(|(measured, reading)| (
+            measured.seconds(),
+            reading.microhertz(),
+        ))),
+        Reply::Totalled(tree::Total { count, sum }) => Answer::Total(Total {
+            count: u64::from(count),
+            sum,
+        }),
+        Reply::Named(name) => Answer::Name(name.map(|name| Text::of(name.text().as_bytes()))),
     }
 }
 
 /// How the proved register answers.
-pub fn call_proved<N: NameOrder>(
-    register: &mut Register<'_, N>,
-    call: Call,
-) -> Result<Answer, Declined> {
-    match call {
-        Call::Open => given(register.open_line()),
-        Call::Fetch(shelf) => given(register.fetch(shelf)),
-        Call::Branch(handle) => branched(register.branch(line(handle))),
-        Call::Stow(handle, shelf) => taken(register.stow(line(handle), shelf)),
-        Call::Retire(handle) => taken(register.retire(line(handle))),
-        Call::Begin(handle, recorded) => handed(register.begin(line(handle), recorded)),
-        Call::Enter(handle, entry) => enter(register, handle, entry),
-        Call::Commit(handle) => handed(register.commit(sitting(handle))),
-        Call::Abandon(handle) => handed(register.abandon(sitting(handle))),
-        Call::AsOf(handle, recorded, name, measured) => {
-            as_of(register, handle, recorded, name, measured)
-        }
-        Call::Total(handle, recorded, name, from, to) => {
-            total(register, handle, recorded, name, from, to)
-        }
-        Call::NextName(handle, recorded, after) => next_name(register, handle, recorded, after),
-    }
-}
-
-fn enter<N: NameOrder>(
-    register: &mut Register<'_, N>,
-    handle: Handle,
-    entry: Entry<'static>,
-) -> Result<Answer, Declined> {
-    let Entry {
-        name,
-        measured,
-        change,
-    } = entry;
-    let sitting = sitting(handle);
-    let entered = match change {
-        Change::Record(microhertz) => register.record(&sitting, name, measured, microhertz),
-        Change::Correct(microhertz) => register.correct(&sitting, name, measured, microhertz),
-        Change::Withdraw => register.withdraw(&sitting, name, measured),
+pub fn call_proved<N: NameOrder>(register: &mut Register<'_, N>, call: Call) -> Outcome {
+    let answered = match plain(call) {
+        Do(action) => register.perform(action),
+        Ask(question) => register.ask(question),
     };
-    let _ = sitting.into_parts();
-    match entered {
-        Ok(()) => Ok(Answer::Done),
-        Err(why) => Err(refused_with(why)),
-    }
-}
-
-fn as_of<N: NameOrder>(
-    register: &Register<'_, N>,
-    handle: Handle,
-    recorded: u32,
-    name: &[u8],
-    measured: u32,
-) -> Result<Answer, Declined> {
-    let line = line(handle);
-    let found = register.as_of(&line, recorded, name, measured);
-    let _ = line.into_parts();
-    match found {
-        Ok(None) => Ok(Answer::Reading(None)),
-        Ok(Some((instant, reading))) => Ok(Answer::Reading(Some((
-            instant.seconds(),
-            reading.microhertz(),
-        )))),
-        Err(why) => Err(refused_with(why)),
-    }
-}
-
-fn total<N: NameOrder>(
-    register: &Register<'_, N>,
-    handle: Handle,
-    recorded: u32,
-    name: &[u8],
-    from: u32,
-    to: u32,
-) -> Result<Answer, Declined> {
-    let line = line(handle);
-    let total = register.total(&line, recorded, name, from, to);
-    let _ = line.into_parts();
-    match total {
-        Ok(tree::Total { count, sum }) => Ok(Answer::Total(Total {
-            count: u64::from(count),
-            sum,
-        })),
-        Err(why) => Err(refused_with(why)),
-    }
-}
-
-fn next_name<N: NameOrder>(
-    register: &Register<'_, N>,
-    handle: Handle,
-    recorded: u32,
-    after: Option<&[u8]>,
-) -> Result<Answer, Declined> {
-    let line = line(handle);
-    let next = match after {
-        Some(name) => register.next_name(&line, recorded, name),
-        None => register.first_name(&line, recorded),
-    };
-    let _ = line.into_parts();
-    match next {
-        Ok(None) => Ok(Answer::Name(None)),
-        Ok(Some(name)) => Ok(Answer::Name(Some(Text::of(name.text().as_bytes())))),
-        Err(why) => Err(refused_with(why)),
+    match answered {
+        Ok(reply) => Ok(answer_of(reply)),
+        Err(why) => Err(u8::from(why)),
     }
 }
 
@@ -234,33 +149,11 @@ pub fn call_naive(
     register: &mut naive::Register<'static>,
     call: Call,
     nodes_short: bool,
-) -> Result<Result<Answer, Declined>, AllocError> {
+) -> Result<Outcome, AllocError> {
     match answer_naive(register, call, nodes_short) {
         Ok(answer) => Ok(Ok(answer)),
-        Err(Failure::Refused(why)) => Ok(Err(Declined {
-            number: why.number(),
-            handle: call.taken(),
-        })),
+        Err(Failure::Refused(why)) => Ok(Err(why.number())),
         Err(Failure::OutOfMemory) => Err(AllocError),
-    }
-}
-
-impl Call {
-    pub fn is_question(self) -> bool {
-        matches!(self, Call::AsOf(..) | Call::Total(..) | Call::NextName(..))
-    }
-
-    /// The handle that the call takes, and gives back when it is refused.
-    fn taken(self) -> Option<Handle> {
-        match self {
-            Call::Branch(handle)
-            | Call::Stow(handle, _)
-            | Call::Retire(handle)
-            | Call::Begin(handle, _)
-            | Call::Commit(handle)
-            | Call::Abandon(handle) => Some(handle),
-            _ => None,
-        }
     }
 }
 
@@ -271,7 +164,7 @@ fn answer_naive(
 ) -> Result<Answer, Failure> {
     match call {
         Call::Open => Ok(Answer::Handle(register.open_line()?)),
-        Call::Branch(handle) => Ok(Answer::Handles(handle, register.branch(handle)?)),
+        Call::Branch(handle) => Ok(Answer::Handle(register.branch(handle)?)),
         Call::Stow(handle, shelf) => {
             register.stow(handle, shelf)?;
             Ok(Answer::Done)
@@ -283,7 +176,7 @@ fn answer_naive(
         }
         Call::Begin(handle, recorded) => {
             register.begin(handle, recorded)?;
-            Ok(Answer::Handle(handle))
+            Ok(Answer::Done)
         }
         Call::Enter(handle, entry) => {
             register.enter(handle, entry, nodes_short)?;
@@ -291,11 +184,11 @@ fn answer_naive(
         }
         Call::Commit(handle) => {
             register.commit(handle, nodes_short)?;
-            Ok(Answer::Handle(handle))
+            Ok(Answer::Done)
         }
         Call::Abandon(handle) => {
             register.abandon(handle)?;
-            Ok(Answer::Handle(handle))
+            Ok(Answer::Done)
         }
         Call::AsOf(handle, recorded, name, measured) => {
             let reading = register.as_of(handle, recorded, name, measured)?;

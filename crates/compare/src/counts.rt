@@ -1,6 +1,6 @@
 //! Counts of what was compared.
 
-use crate::calls::{Answer, Declined};
+use crate::calls::{Answer, Outcome};
 
 pub const COMMANDS: [u8; 12] = *b"NDUBSQTRCWEX";
 
@@ -47,15 +47,15 @@ impl Answers {
     }
 
     /// Counts the answer of a call.
-    pub fn call(&mut self, answer: Result<Answer, Declined>) {
+    pub fn call(&mut self, outcome: Outcome) {
         self.all = self.all.saturating_add(1);
-        match answer {
+        match outcome {
             Ok(Answer::Reading(None) | Answer::Name(None)) => self.count_none(),
             Ok(Answer::Reading(Some(_)) | Answer::Name(Some(_)) | Answer::Total(_)) => {
                 self.count_found()
             }
             Ok(_) => {}
-            Err(declined) => self.refusal(declined.number),
+            Err(number) => self.refusal(number),
         }
     }
 

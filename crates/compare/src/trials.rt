@@ -1,7 +1,7 @@
 //! Runs of calls, drawn from a seed, on the proved register and on the one of plain lists, under one order of names.
 
 use crate::call_maker::CallMaker;
-use crate::calls::{Answer, Call, Declined, call_naive, call_proved};
+use crate::calls::{Call, Outcome, call_naive, call_proved};
 use crate::counts::Answers;
 use crate::memory::Memory;
 use crate::random::Random;
@@ -28,8 +28,8 @@ const LATE_SERIALS: [u32; 3] = [4294967280, 4294967294, 4294967295];
 #[derive(Clone, Copy)]
 pub struct CallDifference {
     pub call: Call,
-    pub answer: Result<Answer, Declined>,
-    pub wanted: Result<Answer, Declined>,
+    pub answer: Outcome,
+    pub wanted: Outcome,
     pub before: Tally,
     pub after: Tally,
 }

@@ -1,11 +1,14 @@
-//! Lines on shelves. A line has to be spent, and an early return by `?` must not let it go, so between two uses each
-//! line lies on a shelf of the register, where nobody holds it. A refusal on the way spends the handle that comes back
-//! with it, and ends the program.
+//! Lines on shelves. Between two uses each line lies on a shelf of the register, where nobody holds it. No line is lost
+//! on the way: what a refusal gives back is laid back on its shelf, and a line that no shelf takes is retired.
+
+ghost use Rattle.std.specs.Prelude.{IfOk};
+ghost use Rattle.register.specs.Calls.{line_handle, sitting_handle};
+ghost use Rattle.register.specs.Registers.{IsAtRest, IsInSitting, Keeps, KeepsOthers};
 
 use crate::moment::Span;
 use crate::pages::{Entry, Page, STEP};
 use kinds::{Instant, Name, Reading};
-use register::{Refusal, Register, Sitting};
+use register::{Line, Refusal, Refused, Register, Sitting};
 use std::alloc::{AllocError, Global};
 use tree::Total;
 
@@ -15,25 +18,55 @@ pub const LOG: u8 = b'L';
 /// The shelf of a branch of the log.
 pub const BRANCH: u8 = b'B';
 
+/// Lays a line on a shelf. Where that is refused, the line is retired.
+fn lay(register: &mut Register<'_, Name>, line: Line, shelf: u8) -> Result<(), Refusal>
+    requires { IsAtRest register.old (line_handle line) }
+    ensures lines { KeepsOthers IsAtRest (line_handle line) register.old register.new }
+    ensures sittings { Keeps IsInSitting register.old register.new }
+{
+    match register.stow(line, shelf) {
+        Ok(()) => Ok(()),
+        Err(refused) => {
+            let Refused { handle, why } = refused;
+            register.retire(handle).unwrap();
+            Err(why)
+        }
+    }
+}
+
+/// Lays the line that a refused call gave back on a shelf, and gives the reason of that call.
+fn lay_back(register: &mut Register<'_, Name>, refused: Refused<Line>, shelf: u8) -> Refusal
+    requires { IsAtRest register.old (line_handle refused.handle) }
+{
+    let Refused { handle, why } = refused;
+    let _ = lay(register, handle, shelf);
+    why
+}
+
 /// Opens a line, without a stage, on a shelf.
 pub fn open(register: &mut Register<'_, Name>, shelf: u8) -> Result<(), Refusal> {
     let line = register.open_line()?;
-    register.stow(line, shelf).map_err(Refusal::from)
+    lay(register, line, shelf)
 }
 
 /// Branches the line of one shelf. The new line comes to lie on the other.
 pub fn branch(register: &mut Register<'_, Name>, from: u8, to: u8) -> Result<(), Refusal> {
     let line = register.fetch(from)?;
-    let (old, new) = register.branch(line)?;
-    let back = register.stow(old, from).map_err(Refusal::from);
-    register.stow(new, to)?;
-    back
+    match register.branch(line) {
+        Ok((old, new)) => {
+            let back = lay(register, old, from);
+            lay(register, new, to)?;
+            back
+        }
+        Err(refused) => Err(lay_back(register, refused, from)),
+    }
 }
 
 /// Retires the line of a shelf.
 pub fn retire(register: &mut Register<'_, Name>, shelf: u8) -> Result<(), Refusal> {
     let line = register.fetch(shelf)?;
-    register.retire(line).map_err(Refusal::from)
+    register.retire(line).unwrap();
+    Ok(())
 }
 
 /// Enters a page in one sitting. Where an entry is refused, the sitting is abandoned, and the line is as it was.
@@ -43,30 +76,52 @@ pub fn enter(register: &mut Register<'_, Name>, shelf: u8, page: &Page) -> Resul
     end(register, shelf, sitting, entered)
 }
 
-/// Begins a sitting on the line of a shelf.
-pub fn begin(
+/// Begins a sitting on the line of a shelf. A line that is refused is laid back.
+pub(crate) fn begin(
     register: &mut Register<'_, Name>,
     shelf: u8,
     recorded: u32,
-) -> Result<Sitting, Refusal> {
+) -> Result<Sitting, Refusal>
+    ensures { IfOk result (λ sitting. IsInSitting register.new (sitting_handle sitting)) }
+{
     let line = register.fetch(shelf)?;
-    register.begin(line, recorded).map_err(Refusal::from)
+    match register.begin(line, recorded) {
+        Ok(sitting) => Ok(sitting),
+        Err(refused) => Err(lay_back(register, refused, shelf)),
+    }
 }
 
-/// Ends a sitting and lays its line on a shelf: commits where all entries were accepted, and else abandons.
-pub fn end(
+/// Ends a sitting and lays its line on a shelf: commits where all entries were accepted, and else abandons. A sitting
+/// whose commit is refused is abandoned too.
+pub(crate) fn end(
     register: &mut Register<'_, Name>,
     shelf: u8,
     sitting: Sitting,
     entered: Result<(), Refusal>,
-) -> Result<(), Refusal> {
-    let ended = match entered {
+) -> Result<(), Refusal>
+    requires { IsInSitting register.old (sitting_handle sitting) }
+{
+    let committed = match entered {
         Ok(()) => register.commit(sitting),
-        Err(_) => register.abandon(sitting),
+        Err(why) => Err(Refused {
+            handle: sitting,
+            why,
+        }),
     };
-    let line = ended?;
-    register.stow(line, shelf)?;
-    entered
+    match committed {
+        Ok(line) => lay(register, line, shelf),
+        Err(refused) => Err(give_up(register, refused, shelf)),
+    }
+}
+
+/// Abandons the sitting that could not be committed and lays its line on a shelf. Gives the reason.
+fn give_up(register: &mut Register<'_, Name>, refused: Refused<Sitting>, shelf: u8) -> Refusal
+    requires { IsInSitting register.old (sitting_handle refused.handle) }
+{
+    let Refused { handle, why } = refused;
+    let line = register.abandon(handle).unwrap();
+    let _ = lay(register, line, shelf);
+    why
 }
 
 /// Makes the entries in order, up to the first that is refused.
@@ -74,7 +129,9 @@ fn make_entries(
     register: &mut Register<'_, Name>,
     sitting: &Sitting,
     entries: &[Entry],
-) -> Result<(), Refusal> {
+) -> Result<(), Refusal>
+    ensures { Keeps IsInSitting register.old register.new }
+{
     for entry in entries {
         make_entry(register, sitting, entry)?;
     }
@@ -85,7 +142,9 @@ fn make_entry(
     register: &mut Register<'_, Name>,
     sitting: &Sitting,
     entry: &Entry,
-) -> Result<(), Refusal> {
+) -> Result<(), Refusal>
+    ensures { Keeps IsInSitting register.old register.new }
+{
     match entry {
         Entry::Sweep {
             generator,
@@ -110,7 +169,9 @@ fn record_sweep(
     generator: &[u8],
     from: u32,
     readings: &[i64],
-) -> Result<(), Refusal> {
+) -> Result<(), Refusal>
+    ensures { Keeps IsInSitting register.old register.new }
+{
     let mut measured = from;
     for reading in readings {
         register.record(sitting, generator, measured, *reading)?;
@@ -126,10 +187,12 @@ pub fn as_of(
     known: u32,
     generator: &[u8],
     measured: u32,
-) -> Result<Option<(Instant, Reading)>, Refusal> {
+) -> Result<Option<(Instant, Reading)>, Refusal>
+    ensures { Keeps IsInSitting register.old register.new }
+{
     let line = register.fetch(shelf)?;
     let found = register.as_of(&line, known, generator, measured);
-    register.stow(line, shelf)?;
+    lay(register, line, shelf)?;
     found
 }
 
@@ -140,10 +203,12 @@ pub fn total(
     known: u32,
     generator: &[u8],
     span: Span,
-) -> Result<Total, Refusal> {
+) -> Result<Total, Refusal>
+    ensures { Keeps IsInSitting register.old register.new }
+{
     let line = register.fetch(shelf)?;
     let total = register.total(&line, known, generator, span.from, span.to);
-    register.stow(line, shelf)?;
+    lay(register, line, shelf)?;
     total
 }
 
@@ -177,6 +242,6 @@ fn next_generator(
         None => register.first_name(&line, known),
         Some(generator) => register.next_name(&line, known, generator.text().as_bytes()),
     };
-    register.stow(line, shelf)?;
+    lay(register, line, shelf)?;
     next
 }

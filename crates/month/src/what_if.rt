@@ -1,5 +1,7 @@
 //! What the log would say if the reference had been off: the same corrections on a branch of it.
 
+ghost use Rattle.register.specs.Registers.{IsInSitting, Keeps};
+
 use crate::moment::Span;
 use crate::shelves;
 use crate::shelves::{BRANCH, LOG};
@@ -31,7 +33,9 @@ fn shift_all(
     sitting: &Sitting,
     generators: &[Name],
     shift: &Shift,
-) -> Result<(), Refusal> {
+) -> Result<(), Refusal>
+    ensures { Keeps IsInSitting register.old register.new }
+{
     for generator in generators {
         shift_one(register, sitting, generator.text().as_bytes(), shift)?;
     }
@@ -45,7 +49,9 @@ fn shift_one(
     sitting: &Sitting,
     generator: &[u8],
     shift: &Shift,
-) -> Result<(), Refusal> {
+) -> Result<(), Refusal>
+    ensures { Keeps IsInSitting register.old register.new }
+{
     let known = shift.recorded;
     let count = shelves::total(register, LOG, known, generator, shift.span)?.count;
     let mut latest = shift.span.to;

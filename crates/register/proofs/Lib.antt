@@ -58,3 +58,4 @@ pub mod Moves
 pub mod ThreeNodes
 pub mod WorkedSteps
 pub mod Working
+pub mod Handles

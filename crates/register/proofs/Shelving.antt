@@ -1,10 +1,11 @@
 -- Stowing a line on a shelf, and fetching it.
-use Rattle.std.proofs.Common.{◌≡◌, ℕ, ◌<◌, Bool, true, false, not, List, [], ◌∷◌, length, get_or, set, is_some, Some, None, Option, unwrap_or, sym, refl, ap, ◌∙◌, subst, arith}
+use Rattle.std.proofs.Common.{◌≡◌, ℕ, ◌<◌, true, false, List, ◌∷◌, length, get_or, set, Some, None, Option, unwrap_or, sym, refl, ap, ◌∙◌, subst}
 use Rattle.std.proofs.ByRecursion.{All-get_or}
 use Rattle.std.specs.List.{AllByRecursion}
 use Rattle.pool.specs.Held.{Held, Holds}
 use Rattle.pool.specs.declared.pool.Pool.{Pool}
 use Rattle.register.proofs.Changing.{Rests, kept-apart, kept-changed, place-of, rests, shows-changed, state-at}
+use Rattle.register.proofs.Handles.{stowable-rests}
 use Rattle.register.proofs.Keeping.{record-at}
 use Rattle.register.proofs.Owning.{others}
 use Rattle.register.proofs.Telling.{accepted, refuses}
@@ -14,13 +15,12 @@ use Rattle.register.specs.Contents.{Names}
 use Rattle.register.specs.Declined.{declined}
 use Rattle.register.specs.Kept.{Kept}
 use Rattle.register.specs.Places.{Place, free, is_stowed, live, none, place_of, record_of, resting, serial_at, stages_at, stowed}
-use Rattle.register.specs.Refusals.{first_of}
 use Rattle.register.specs.Shapes.{Ordered, Sturdy}
 use Rattle.register.specs.Shown.{Shown, Shows}
 use Rattle.register.specs.Steps.{Step, becomes, on_shelf}
 use Rattle.register.specs.Tables.{in_state, is_letter, line_of, lowest, resting_record, root_in, serial_in, stow_refusal}
 use Rattle.register.specs.declared.refusal.Refusal.{Refusal}
-use Rattle.register.specs.declared.refusal.Refusal.TheVariants.{NoSuchLine, NotAShelf, ShelfEmpty, ShelfTaken}
+use Rattle.register.specs.declared.refusal.Refusal.TheVariants.{NotAShelf, ShelfEmpty}
 use Rattle.register.specs.declared.table.Record.{Record}
 use Rattle.register.specs.declared.table.State.TheVariants.{AtRest, Stowed}
 
@@ -43,11 +43,7 @@ module _ (p : Pool) (ls : List (Option Record)) (place serial : ℕ) (r : Option
   module _ (free-to : None ≡ stow_refusal ls r letter) (ls' : List (Option Record))
       (put : ls' ≡ set ls place (Some (record { serial = serial_in r; root = root_in r; state = Stowed letter }))) where
     resting-state : in_state AtRest r ≡ true
-    resting-state = first-false (in_state AtRest r) NoSuchLine ((not (is_letter letter), NotAShelf) ∷ (is_some (lowest (in_state (Stowed letter)) ls), ShelfTaken) ∷ []) free-to
-      where
-        first-false : (b : Bool) (why : Refusal) (rows : List (Bool × Refusal)) → None ≡ first_of ((not b, why) ∷ rows) → b ≡ true
-        first-false true why rows e = refl
-        first-false false why rows e = absurd (let z : ◌≡◌ {A = ℕ} 0 1 = cc in omega arith)
+    resting-state = stowable-rests ls r letter free-to
 
     at_rest : (xs : List Place) (k : Kept p ls xs) → Rests xs place serial r
     at_rest xs k = rests p ls xs k place serial r is resting-state

@@ -11,7 +11,7 @@ use Rattle.register.specs.declared.refusal.Refusal.TheVariants.{LinesExhausted, 
 use Rattle.register.specs.declared.table.Record.{Record}
 use Rattle.register.specs.declared.table.State.TheVariants.{Stowed}
 
-differ : {A : Type 0} → ◌≡◌ {A = ℕ} 0 1 → A
+pub differ : {A : Type 0} → ◌≡◌ {A = ℕ} 0 1 → A
 differ e = absurd (omega (arith, e))
 
 -- ---- tests of records are tests of places
@@ -85,7 +85,7 @@ pub record Vacancy (xs : List Place) (next place : ℕ) : Type 0 where
   pub within : place < length xs
   pub serial : next < 4294967295
 
-place-given : (next place : ℕ) (o : Option ℕ) → Ok place ≡ place_or next o → (o ≡ Some place) × (next < 4294967295)
+pub place-given : (next place : ℕ) (o : Option ℕ) → Ok place ≡ place_or next o → (o ≡ Some place) × (next < 4294967295)
 place-given next place None e = differ (cc)
 place-given next place (Some i) e =
     elim (ltb 4294967294 next) as (λ b. ltb 4294967294 next ≡ b → ◌≡◌ {A = Result ℕ Refusal} (Ok place) (cond b (Err SerialsExhausted) (Ok i)) → (Some i ≡ Some place) × (next < 4294967295)) [

@@ -1,5 +1,5 @@
 -- What a call on a register tells: whatever the register shows before it, the call is a step from there to what it shows after it.
-use Rattle.std.specs.Prelude.{◌≡◌, drop, true, Ok, Err, Result}
+use Rattle.std.specs.Prelude.{◌≡◌, drop, true, Ok, Err, Result, ◌≢◌, ℕ, Some, Option}
 use Rattle.pool.specs.declared.pool.Pool.{Pool}
 use Rattle.register.specs.Answering.{leaves_nodes}
 use Rattle.register.specs.Calls.{Answer, Call, Handle, Line, Sitting, line_handle, sitting_handle}
@@ -7,8 +7,11 @@ use Rattle.register.specs.Contents.{Names}
 use Rattle.register.specs.Kept.{pool_in}
 use Rattle.register.specs.Shown.{Shown, Shows}
 use Rattle.register.specs.Steps.{Step}
+use Rattle.register.specs.Tables.{line_of, state_in}
 use Rattle.register.specs.declared.handle.Refused.{Refused}
 use Rattle.register.specs.declared.register.Register.{Register}
+use Rattle.register.specs.declared.table.State.{State}
+use Rattle.register.specs.declared.table.State.TheVariants.{AtRest, Sitting as seated_at}
 
 -- the pool that the register stands for: its nodes are the first of the memory, as many as its size says
 abbrev pub pool_of : {N : Type 0} → Register N → Pool
@@ -54,3 +57,21 @@ SameSitting handle (Err e) = Unit {0}
 abbrev pub SameLine : {E : Type 0} → Handle → Result Line E → Type 0
 SameLine handle (Ok line) = line_handle line ≡ handle
 SameLine handle (Err e) = Unit {0}
+
+-- the state of the line that has a handle
+abbrev pub state_with : {N : Type 0} → Register N → Handle → Option State
+state_with r h = state_in (line_of r.table.lines h.place h.serial)
+
+-- a line at rest has the handle; a line in a sitting has it
+unfoldable pub IsAtRest : {N : Type 0} → Register N → Handle → Type 0
+IsAtRest r h = state_with r h ≡ Some AtRest
+
+unfoldable pub IsInSitting : {N : Type 0} → Register N → Handle → Type 0
+IsInSitting r h = (recorded : ℕ) × (sheet : ℕ) × (state_with r h ≡ Some (seated_at recorded sheet))
+
+-- every handle that is so before a call is so after it; or every one of another place than the call's
+abbrev pub Keeps : {N : Type 0} → (Register N → Handle → Type 0) → Register N → Register N → Type 0
+Keeps IsSo r r' = (h : Handle) → IsSo r h → IsSo r' h
+
+abbrev pub KeepsOthers : {N : Type 0} → (Register N → Handle → Type 0) → Handle → Register N → Register N → Type 0
+KeepsOthers IsSo own r r' = (h : Handle) → h.place ≢ own.place → IsSo r h → IsSo r' h

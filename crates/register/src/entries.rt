@@ -12,7 +12,7 @@ ghost use Rattle.register.specs.Declined.{lacking, occupied};
 ghost use Rattle.register.specs.Entries.{Readable, entry_refusal};
 ghost use Rattle.register.specs.Refusals.{first_of};
 ghost use Rattle.register.specs.Shapes.{Filed, SheetWith};
-ghost use Rattle.register.specs.Registers.{SameLoan, Tells, pool_of};
+ghost use Rattle.register.specs.Registers.{SameLoan, Tells, pool_of, IsAtRest, IsInSitting, Keeps};
 ghost use Rattle.register.specs.declared.entries.Change.TheVariants.{Record as records, Correct as corrects, Withdraw as withdraws};
 ghost use Rattle.register.specs.declared.refusal.Refusal.TheVariants.{NoReading, ReadingThere};
 
@@ -114,6 +114,8 @@ impl<'m, N: NameOrder> Register<'m, N> {
         ensures told { Tells (names N.Key.words N.Key.key N.cmp N.NameOrder.named N.NameOrder.name) self.old (enters (sitting_handle sitting.now) name.now measured change) (entry_answer result) self.new }
         ensures lent { SameLoan self.old self.new }
         ensures same { is_err result ≡ true → self.new ≡ self.old }
+        ensures lines { Keeps IsAtRest self.old self.new }
+        ensures sittings { Keeps IsInSitting self.old self.new }
     {
         let (record, recorded, sheet) = self.table.sitting(sitting)?;
         let name = Name::try_from(name)?;
@@ -149,6 +151,8 @@ impl<'m, N: NameOrder> Register<'m, N> {
         ensures told { Tells (names N.Key.words N.Key.key N.cmp N.NameOrder.named N.NameOrder.name) self.old (enters (sitting_handle sitting.now) name.now measured (records microhertz)) (entry_answer result) self.new }
         ensures lent { SameLoan self.old self.new }
         ensures same { is_err result ≡ true → self.new ≡ self.old }
+        ensures lines { Keeps IsAtRest self.old self.new }
+        ensures sittings { Keeps IsInSitting self.old self.new }
     {
         self.enter(sitting, name, measured, Change::recording(microhertz))
     }
@@ -164,6 +168,8 @@ impl<'m, N: NameOrder> Register<'m, N> {
         ensures told { Tells (names N.Key.words N.Key.key N.cmp N.NameOrder.named N.NameOrder.name) self.old (enters (sitting_handle sitting.now) name.now measured (corrects microhertz)) (entry_answer result) self.new }
         ensures lent { SameLoan self.old self.new }
         ensures same { is_err result ≡ true → self.new ≡ self.old }
+        ensures lines { Keeps IsAtRest self.old self.new }
+        ensures sittings { Keeps IsInSitting self.old self.new }
     {
         self.enter(sitting, name, measured, Change::correcting(microhertz))
     }
@@ -173,6 +179,8 @@ impl<'m, N: NameOrder> Register<'m, N> {
         ensures told { Tells (names N.Key.words N.Key.key N.cmp N.NameOrder.named N.NameOrder.name) self.old (enters (sitting_handle sitting.now) name.now measured withdraws) (entry_answer result) self.new }
         ensures lent { SameLoan self.old self.new }
         ensures same { is_err result ≡ true → self.new ≡ self.old }
+        ensures lines { Keeps IsAtRest self.old self.new }
+        ensures sittings { Keeps IsInSitting self.old self.new }
     {
         self.enter(sitting, name, measured, Change::Withdraw)
     }

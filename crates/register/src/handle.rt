@@ -1,5 +1,6 @@
 //! Handles: a line at rest and a sitting are two types of plain numbers, a place and a serial.
-//! Each is moved, never copied, and only a spent one may be let go.
+//! Each is moved, never copied, and only a spent one may be let go. No caller makes one or takes one apart: whoever works
+//! with any numbers makes the calls as plain values.
 
 ghost use Rattle.std.specs.Prelude.{◌≡◌};
 
@@ -49,7 +50,7 @@ impl<S> Drop for Handle<S> {
 
 impl<S> Handle<S> {
     /// The handle of these two numbers, whether or not a line has it. A `From` of a pair would not say which is which.
-    pub fn from_parts(place: u32, serial: u32) -> Handle<S>
+    pub(crate) fn from_parts(place: u32, serial: u32) -> Handle<S>
         ensures place { result.place ≡ place }
         ensures serial { result.serial ≡ serial }
     {
@@ -61,7 +62,7 @@ impl<S> Handle<S> {
     }
 
     /// The handle's numbers; the handle is no more.
-    pub fn into_parts(self) -> (u32, u32)
+    pub(crate) fn into_parts(self) -> (u32, u32)
         ensures place { result.0 ≡ self.place }
         ensures serial { result.1 ≡ self.serial }
     {
@@ -90,15 +91,4 @@ impl<S> Handle<S> {
 pub struct Refused<H> {
     pub handle: H,
     pub why: Refusal,
-}
-
-/// Why a call was declined, where the caller is done with the handle too.
-impl<S> From<Refused<Handle<S>>> for Refusal {
-    ghost from_gives = { λ refused why. why ≡ refused.why };
-
-    fn from(refused: Refused<Handle<S>>) -> Refusal {
-        let Refused { handle, why } = refused;
-        let _ = handle.into_parts();
-        why
-    }
 }

@@ -1,11 +1,12 @@
 //! Opening, branching, stowing, fetching and retiring lines.
 
-ghost use Rattle.std.specs.Prelude.{◌≡◌, ◌+◌, ◌^◌, ◌<◌, ◌≤◌, drop, min, true, List, ◌∷◌, length, is_err};
-ghost use Rattle.pool.specs.Held.{CarriesIn, Held, HoldsBy, held};
+ghost use Rattle.std.specs.Prelude.{◌≡◌, ◌+◌, ◌^◌, ◌<◌, ◌≤◌, drop, min, true, List, ◌∷◌, length, is_err, ◌≢◌, IfOk, IsOk};
+ghost use Rattle.pool.specs.Held.{CarriesIn, Held, HoldsBy, held, Carries, Holds};
 ghost use Rattle.pool.specs.Tree.{Tree};
 ghost use Rattle.register.specs.Calls.{branch_answer, branches, done_answer, fetches, line_answer, line_handle, opens, retires, stows};
 ghost use Rattle.register.specs.Contents.{names};
-ghost use Rattle.register.specs.Registers.{GivesBack, HandsBack, SameLoan, ShownBy, Tells};
+ghost use Rattle.register.specs.Registers.{GivesBack, HandsBack, SameLoan, ShownBy, Tells, IsAtRest, IsInSitting, Keeps, KeepsOthers};
+ghost use Rattle.pool.specs.Sound.{memory_of, used_of};
 ghost use Rattle.register.specs.Shown.{newly_made};
 ghost use Rattle.register.specs.Tables.{resting_record, vacancy_in};
 
@@ -80,6 +81,9 @@ impl<'m, N: NameOrder> Register<'m, N> {
         ensures told { Tells (names N.Key.words N.Key.key N.cmp N.NameOrder.named N.NameOrder.name) self.old opens (line_answer result) self.new }
         ensures lent { SameLoan self.old self.new }
         ensures same { is_err result ≡ true → self.new ≡ self.old }
+        ensures rests { IfOk result (λ line. IsAtRest self.new (line_handle line)) }
+        ensures lines { Keeps IsAtRest self.old self.new }
+        ensures sittings { Keeps IsInSitting self.old self.new }
     {
         let place = self.vacancy()?;
         let serial = self.next;
@@ -94,6 +98,10 @@ impl<'m, N: NameOrder> Register<'m, N> {
         ensures lent { SameLoan self.old self.new }
         ensures back { GivesBack line result }
         ensures same { is_err result ≡ true → self.new ≡ self.old }
+        ensures rests { IfOk result (λ lines. IsAtRest self.new (line_handle lines.1)) }
+        ensures apart { IfOk result (λ lines. lines.1.place ≢ lines.0.place) }
+        ensures lines { Keeps IsAtRest self.old self.new }
+        ensures sittings { Keeps IsInSitting self.old self.new }
     {
         let Ok(record) = self.table.resting(&line) else {
             return Err(Refused {
@@ -123,6 +131,8 @@ impl<'m, N: NameOrder> Register<'m, N> {
         ensures lent { SameLoan self.old self.new }
         ensures back { HandsBack line result }
         ensures same { is_err result ≡ true → self.new ≡ self.old }
+        ensures lines { KeepsOthers IsAtRest (line_handle line) self.old self.new }
+        ensures sittings { Keeps IsInSitting self.old self.new }
     {
         let record = match self.table.may_stow(&line, letter) {
             Ok(record) => record,
@@ -138,6 +148,9 @@ impl<'m, N: NameOrder> Register<'m, N> {
         ensures told { Tells (names N.Key.words N.Key.key N.cmp N.NameOrder.named N.NameOrder.name) self.old (fetches letter) (line_answer result) self.new }
         ensures lent { SameLoan self.old self.new }
         ensures same { is_err result ≡ true → self.new ≡ self.old }
+        ensures rests { IfOk result (λ line. IsAtRest self.new (line_handle line)) }
+        ensures lines { Keeps IsAtRest self.old self.new }
+        ensures sittings { Keeps IsInSitting self.old self.new }
     {
         if !letter.is_ascii_uppercase() {
             return Err(Refusal::NotAShelf);
@@ -156,6 +169,9 @@ impl<'m, N: NameOrder> Register<'m, N> {
         ensures lent { SameLoan self.old self.new }
         ensures back { HandsBack line result }
         ensures same { is_err result ≡ true → self.new ≡ self.old }
+        ensures accepted { IsAtRest self.old (line_handle line) → IsOk result }
+        ensures lines { KeepsOthers IsAtRest (line_handle line) self.old self.new }
+        ensures sittings { Keeps IsInSitting self.old self.new }
     {
         let Ok(record) = self.table.resting(&line) else {
             return Err(Refused {

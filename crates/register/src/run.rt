@@ -76,6 +76,15 @@ fn numbers_of<S>(handle: Handle<S>) -> Parts
     Parts { place, serial }
 }
 
+/// Why a call was declined. The handle that comes back is no more: the caller has its numbers.
+fn reason<S>(refused: Refused<Handle<S>>) -> Refusal
+    ensures { result ≡ refused.why }
+{
+    let Refused { handle, why } = refused;
+    let _ = handle.into_parts();
+    why
+}
+
 /// The answer of a call that gives a line.
 fn handed(res: Result<Line, Refusal>) -> Answer
     ensures answer { answer_of result ≡ line_answer res }
@@ -89,9 +98,13 @@ fn branched(res: Result<(Line, Line), Refused<Line>>) -> Answer
     ensures answer { answer_of result ≡ branch_answer res }
     ensures declined { is_err result ≡ is_err res }
 {
-    let (old, new) = res?;
-    let _ = old.into_parts();
-    Ok(Reply::Handed(numbers_of(new)))
+    match res {
+        Ok((old, new)) => {
+            let _ = old.into_parts();
+            Ok(Reply::Handed(numbers_of(new)))
+        }
+        Err(refused) => Err(reason(refused)),
+    }
 }
 
 /// The answer of a call that ends with a line.
@@ -99,7 +112,10 @@ fn spent(res: Result<(), Refused<Line>>) -> Answer
     ensures answer { answer_of result ≡ done_answer res }
     ensures declined { is_err result ≡ is_err res }
 {
-    res.map(|_| Reply::Done).map_err(Refusal::from)
+    match res {
+        Ok(()) => Ok(Reply::Done),
+        Err(refused) => Err(reason(refused)),
+    }
 }
 
 /// The answer of a call that begins a sitting or ends one.
@@ -107,8 +123,13 @@ fn turned<S, T>(res: Result<Handle<S>, Refused<Handle<T>>>) -> Answer
     ensures answer { answer_of result ≡ done_answer res }
     ensures declined { is_err result ≡ is_err res }
 {
-    let _ = res?.into_parts();
-    Ok(Reply::Done)
+    match res {
+        Ok(handle) => {
+            let _ = handle.into_parts();
+            Ok(Reply::Done)
+        }
+        Err(refused) => Err(reason(refused)),
+    }
 }
 
 /// The answer of an entry.

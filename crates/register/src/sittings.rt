@@ -1,7 +1,7 @@
 //! Beginning, committing and abandoning sittings.
 
-ghost use Rattle.std.specs.Prelude.{◌≡◌, ◌+◌, ◌^◌, ◌<◌, ◌≤◌, true, List, ◌∷◌, length, pos, is_err, nat_lt};
-ghost use Rattle.pool.specs.Held.{Carries, CarriesIn, Held, HoldsBy, OfParts, held};
+ghost use Rattle.std.specs.Prelude.{◌≡◌, ◌+◌, ◌^◌, ◌<◌, ◌≤◌, true, List, ◌∷◌, length, pos, is_err, nat_lt, IsOk, OnOk};
+ghost use Rattle.pool.specs.Held.{Carries, CarriesIn, Held, HoldsBy, OfParts, held, Holds};
 ghost use Rattle.pool.specs.Sound.{memory_of, used_of};
 ghost use Rattle.pool.specs.Tree.{Tree};
 ghost use Rattle.tree.specs.Append.{Behind};
@@ -12,7 +12,7 @@ ghost use Rattle.tree.specs.Shape.{Balanced, height};
 ghost use Rattle.register.specs.Calls.{abandons, begins, commits, done_answer, line_handle, sitting_handle};
 ghost use Rattle.register.specs.Contents.{earlier, instant_at, names};
 ghost use Rattle.register.specs.Found.{SheetBefore, not_after_stage, sheet_in};
-ghost use Rattle.register.specs.Registers.{HandsBack, SameLine, SameLoan, SameSitting, Tells, pool_of};
+ghost use Rattle.register.specs.Registers.{HandsBack, SameLine, SameLoan, SameSitting, Tells, pool_of, IsAtRest, IsInSitting, Keeps, KeepsOthers};
 ghost use Rattle.register.specs.Tables.{resting_record};
 ghost use Rattle.register.specs.Trees.{instant_words};
 ghost use Rattle.register.specs.declared.table.State.TheVariants.{Sitting as seated_at};
@@ -158,6 +158,9 @@ impl<'m, N: NameOrder> Register<'m, N> {
         ensures back { HandsBack line result }
         ensures kept { SameSitting (line_handle line) result }
         ensures same { is_err result ≡ true → self.new ≡ self.old }
+        ensures sits { OnOk result (IsInSitting self.new (line_handle line)) }
+        ensures lines { KeepsOthers IsAtRest (line_handle line) self.old self.new }
+        ensures sittings { Keeps IsInSitting self.old self.new }
     {
         let Ok(record) = self.table.resting(&line) else {
             return Err(Refused {
@@ -188,6 +191,9 @@ impl<'m, N: NameOrder> Register<'m, N> {
         ensures back { HandsBack sitting result }
         ensures kept { SameLine (sitting_handle sitting) result }
         ensures same { is_err result ≡ true → self.new ≡ self.old }
+        ensures rests { OnOk result (IsAtRest self.new (sitting_handle sitting)) }
+        ensures lines { Keeps IsAtRest self.old self.new }
+        ensures sittings { KeepsOthers IsInSitting (sitting_handle sitting) self.old self.new }
     {
         let Ok((record, recorded, sheet)) = self.table.sitting(&sitting) else {
             return Err(Refused {
@@ -226,6 +232,10 @@ impl<'m, N: NameOrder> Register<'m, N> {
         ensures back { HandsBack sitting result }
         ensures kept { SameLine (sitting_handle sitting) result }
         ensures same { is_err result ≡ true → self.new ≡ self.old }
+        ensures accepted { IsInSitting self.old (sitting_handle sitting) → IsOk result }
+        ensures rests { OnOk result (IsAtRest self.new (sitting_handle sitting)) }
+        ensures lines { Keeps IsAtRest self.old self.new }
+        ensures sittings { KeepsOthers IsInSitting (sitting_handle sitting) self.old self.new }
     {
         let Ok((record, _, sheet)) = self.table.sitting(&sitting) else {
             return Err(Refused {

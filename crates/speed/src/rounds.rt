@@ -4,7 +4,7 @@ use crate::load::{ENTRIES, Plan, recorded};
 use crate::log::{self, Kind, Question};
 use crate::watch::Work;
 use kinds::Name;
-use register::{Line, Refusal, Register, Sitting};
+use register::{Action, Parts, Register};
 use std::rt::Clock;
 use std::time::Instant;
 
@@ -30,17 +30,16 @@ pub fn time_all(
     register: &mut Register<'_, Name>,
     plan: Plan,
 ) -> anyhow::Result<Found> {
-    let line = register.open_line()?;
-    let line = log::sit(register, line, 0, plan.sittings)?;
+    let line = log::open(register)?;
+    log::sit(register, line, 0, plan.sittings)?;
     let nodes = register.tally().in_use;
-    let (line, recording) = enter(rt, register, line, Kind::Record, plan)?;
-    let (line, correcting) = enter(rt, register, line, Kind::Correct, plan)?;
-    let (line, withdrawing) = enter(rt, register, line, Kind::Withdraw, plan)?;
-    let asked = ask_all(rt, register, &line, plan);
-    let (line, (answers, [as_of, short, whole])) = with(line, asked)?;
-    let (line, sitting) = sit(rt, register, line, plan)?;
-    let (line, branching) = branch(rt, register, line, plan)?;
-    register.retire(line).map_err(Refusal::from)?;
+    let recording = enter(rt, register, line, Kind::Record, plan)?;
+    let correcting = enter(rt, register, line, Kind::Correct, plan)?;
+    let withdrawing = enter(rt, register, line, Kind::Withdraw, plan)?;
+    let (answers, [as_of, short, whole]) = ask_all(rt, register, line, plan)?;
+    let sitting = sit(rt, register, line, plan)?;
+    let branching = branch(rt, register, line, plan)?;
+    register.perform(Action::Retire(line))?;
     let (filling, retiring) = fill_and_retire(rt, register, plan)?;
     let works = [
         filling,
@@ -61,56 +60,30 @@ pub fn time_all(
     })
 }
 
-/// The result with the line, or the error without.
-fn with<T>(line: Line, done: anyhow::Result<T>) -> anyhow::Result<(Line, T)> {
-    match done {
-        Ok(done) => Ok((line, done)),
-        Err(error) => {
-            let _ = line.into_parts();
-            Err(error)
-        }
-    }
-}
-
 /// Makes entries of one kind, in a sitting that is abandoned.
 fn enter(
     rt: &impl Clock,
     register: &mut Register<'_, Name>,
-    line: Line,
+    line: Parts,
     kind: Kind,
     plan: Plan,
-) -> anyhow::Result<(Line, Work)> {
+) -> anyhow::Result<Work> {
     let mut work = Work::new(kind.title(), ENTRIES);
-    let mut line = line;
     for _ in 0..plan.rounds {
-        let sitting = register
-            .begin(line, recorded(plan.sittings))
-            .map_err(Refusal::from)?;
-        let timed = time_entries(rt, register, &sitting, kind, plan, &mut work);
-        let rested = register.abandon(sitting).map_err(Refusal::from)?;
-        (line, ()) = with(rested, timed)?;
+        register.perform(Action::Begin(line, recorded(plan.sittings)))?;
+        let start = Instant::now(rt)?;
+        log::enter_all(register, line, kind, plan)?;
+        work.take_round(rt, start)?;
+        register.perform(Action::Abandon(line))?;
     }
-    Ok((line, work))
-}
-
-fn time_entries(
-    rt: &impl Clock,
-    register: &mut Register<'_, Name>,
-    sitting: &Sitting,
-    kind: Kind,
-    plan: Plan,
-    work: &mut Work,
-) -> anyhow::Result<()> {
-    let start = Instant::now(rt);
-    log::enter_all(register, sitting, kind, plan)?;
-    work.take_round(rt, start)
+    Ok(work)
 }
 
 /// Asks all kinds of questions.
 fn ask_all(
     rt: &impl Clock,
     register: &Register<'_, Name>,
-    line: &Line,
+    line: Parts,
     plan: Plan,
 ) -> anyhow::Result<(i64, [Work; 3])> {
     let (a, as_of) = ask(rt, register, line, Question::AsOf, plan)?;
@@ -123,14 +96,14 @@ fn ask_all(
 fn ask(
     rt: &impl Clock,
     register: &Register<'_, Name>,
-    line: &Line,
+    line: Parts,
     question: Question,
     plan: Plan,
 ) -> anyhow::Result<(i64, Work)> {
     let mut work = Work::new(question.title(), question.count());
     let mut answers = 0;
     for _ in 0..plan.rounds {
-        let start = Instant::now(rt);
+        let start = Instant::now(rt)?;
         answers = log::ask_all(register, line, question, plan)?;
         work.take_round(rt, start)?;
     }
@@ -141,50 +114,34 @@ fn ask(
 fn sit(
     rt: &impl Clock,
     register: &mut Register<'_, Name>,
-    line: Line,
+    line: Parts,
     plan: Plan,
-) -> anyhow::Result<(Line, Work)> {
+) -> anyhow::Result<Work> {
     let mut work = Work::new("sitting", SITTINGS);
-    let mut line = line;
     for _ in 0..plan.rounds {
-        let (old, new) = register.branch(line).map_err(Refusal::from)?;
-        let timed = time_sittings(rt, register, new, plan, &mut work);
-        (line, ()) = with(old, timed)?;
+        let new = log::branch(register, line)?;
+        let start = Instant::now(rt)?;
+        log::sit(register, new, plan.sittings, SITTINGS)?;
+        work.take_round(rt, start)?;
+        register.perform(Action::Retire(new))?;
     }
-    Ok((line, work))
-}
-
-/// Makes sittings on a line and retires it.
-fn time_sittings(
-    rt: &impl Clock,
-    register: &mut Register<'_, Name>,
-    line: Line,
-    plan: Plan,
-    work: &mut Work,
-) -> anyhow::Result<()> {
-    let start = Instant::now(rt);
-    let line = log::sit(register, line, plan.sittings, SITTINGS)?;
-    let timed = work.take_round(rt, start);
-    register.retire(line).map_err(Refusal::from)?;
-    timed
+    Ok(work)
 }
 
 /// Branches and retires.
 fn branch(
     rt: &impl Clock,
     register: &mut Register<'_, Name>,
-    line: Line,
+    line: Parts,
     plan: Plan,
-) -> anyhow::Result<(Line, Work)> {
+) -> anyhow::Result<Work> {
     let mut work = Work::new("branch and retire", BRANCHES);
-    let mut line = line;
     for _ in 0..plan.rounds {
-        let start = Instant::now(rt);
-        let old = log::branch_and_retire(register, line, BRANCHES)?;
-        let timed = work.take_round(rt, start);
-        (line, ()) = with(old, timed)?;
+        let start = Instant::now(rt)?;
+        log::branch_and_retire(register, line, BRANCHES)?;
+        work.take_round(rt, start)?;
     }
-    Ok((line, work))
+    Ok(work)
 }
 
 /// Fills a log and retires it.
@@ -196,14 +153,13 @@ fn fill_and_retire(
     let mut filling = Work::new("sitting, while the log grows", plan.sittings);
     let mut retiring = Work::new("retire the log", 1);
     for _ in 0..plan.rounds {
-        let line = register.open_line()?;
-        let start = Instant::now(rt);
-        let line = log::sit(register, line, 0, plan.sittings)?;
-        let filled = filling.take_round(rt, start);
-        let start = Instant::now(rt);
-        register.retire(line).map_err(Refusal::from)?;
+        let line = log::open(register)?;
+        let start = Instant::now(rt)?;
+        log::sit(register, line, 0, plan.sittings)?;
+        filling.take_round(rt, start)?;
+        let start = Instant::now(rt)?;
+        register.perform(Action::Retire(line))?;
         retiring.take_round(rt, start)?;
-        filled?;
     }
     Ok((filling, retiring))
 }

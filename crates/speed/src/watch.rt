@@ -21,14 +21,9 @@ impl Work {
         }
     }
 
-    /// Takes the time from `start` as that of a round. A clock that failed at the start fails here, where no handle is
-    /// held.
-    pub fn take_round(
-        &mut self,
-        rt: &impl Clock,
-        start: io::Result<Instant>,
-    ) -> anyhow::Result<()> {
-        let spent = start?.elapsed(rt)?;
+    /// Takes the time from `start` as that of a round.
+    pub fn take_round(&mut self, rt: &impl Clock, start: Instant) -> io::Result<()> {
+        let spent = start.elapsed(rt)?;
         let nanoseconds = spent
             .as_secs()
             .saturating_mul(1000000000)

@@ -1,4 +1,4 @@
-use Rattle.std.proofs.Common.{refl, ◌∙◌, arith, Some}
+use Rattle.std.proofs.Common.{refl, ◌∙◌, arith, Some, ap}
 use Rattle.register.proofs.Beginning.{began, kept-begun, line-ready, sheet-carried, unbegun, unlater}
 use Rattle.register.proofs.Changing.{length-places}
 use Rattle.register.proofs.Keeping.{the_places}
@@ -8,6 +8,8 @@ use Rattle.register.proofs.Telling.{never, put-at}
 use Rattle.register.specs.Places.{owners_of}
 use Rattle.register.proofs.Readable.{readable}
 use Rattle.register.specs.Tables.{line_of}
+use Rattle.register.proofs.Handles.{all-sit, others-rest, record-there, rest-still, sit-still, sits, sits-now, state-of-rest, within-lines}
+use Rattle.register.specs.Calls.{line_handle}
 use Rattle.register.proofs.register.Register.begin.Goals as goal
 use Rattle.register.specs.Registers.{pool_of}
 use Rattle.pool.proofs.Pools.{holds-in, sound-memory}
@@ -75,3 +77,34 @@ returns-clause-told g c =
 
 pub returns-clause-kept : goal.returns-clause-kept
 returns-clause-kept g c = λ i. record { place = (c.from_parts.ensures.place ∙ c.into_parts-place.ensures.place) i; serial = (c.from_parts.ensures.serial ∙ c.into_parts-place.ensures.serial) i }
+
+pub returns-in_default-clause-lines : goal.returns-in_default-clause-lines
+returns-in_default-clause-lines g c = λ h apart. rest-still c.args.self.now _ refl h
+
+pub returns-in_default-clause-sittings : goal.returns-in_default-clause-sittings
+returns-in_default-clause-sittings g c = sit-still c.args.self.now _ refl
+
+pub returns-in-Err-clause-lines : goal.returns-in-Err-clause-lines
+returns-in-Err-clause-lines g c = λ h apart. rest-still c.args.self.now _ refl h
+
+pub returns-in-Err-clause-sittings : goal.returns-in-Err-clause-sittings
+returns-in-Err-clause-sittings g c = sit-still c.args.self.now _ refl
+
+pub returns-clause-sits : goal.returns-clause-sits
+returns-clause-sits g c =
+    let self = c.args.self.now in
+    let there = record-there self.table.lines c.args.line.place c.args.line.serial c.in-Ok.record c.in-Ok.ensures.0 in
+    let put = put-at self.table.lines _ _ _ _ _ c.put.ensures c.into_parts-place.ensures.place c.sit_down-seated.ensures.made in
+    sits-now self _ _ _ put (line_handle c.args.line) c.in-Ok.record c.args.recorded _ refl (within-lines self.table.lines _ _ there.0) there.1 refl
+
+pub returns-clause-lines : goal.returns-clause-lines
+returns-clause-lines g c =
+    let self = c.args.self.now in
+    let put = put-at self.table.lines _ _ _ _ _ c.put.ensures c.into_parts-place.ensures.place c.sit_down-seated.ensures.made in
+    others-rest self _ _ _ put (line_handle c.args.line) refl
+
+pub returns-clause-sittings : goal.returns-clause-sittings
+returns-clause-sittings g c =
+    let self = c.args.self.now in
+    let put = put-at self.table.lines _ _ _ _ _ c.put.ensures c.into_parts-place.ensures.place c.sit_down-seated.ensures.made in
+    all-sit self _ _ _ put (ap sits (state-of-rest self.table.lines _ _ _ c.in-Ok.ensures.0 c.in-Ok.ensures.1))

@@ -1,9 +1,11 @@
-use Rattle.std.proofs.Common.{Some, sym, refl, ◌∙◌, ltb-false, ltb-true}
+use Rattle.std.proofs.Common.{Some, sym, refl, ◌∙◌, ltb-false, ltb-true, ap}
 use Rattle.register.specs.Tables.{line_of, resting_record}
 use Rattle.register.proofs.Ending.{committed, insertable, kept-committed, line-carried, too_few_lem, too-high, uncommitted}
 use Rattle.register.proofs.Keeping.{the_places}
 use Rattle.register.proofs.Memory.{by-parts, insertable-again, left_in, reopened, rewritten, shown-joined}
 use Rattle.register.proofs.Telling.{never, put-at}
+use Rattle.register.proofs.Handles.{all-rest, others-sit, record-there, rest-still, rests, rests-now, sit-still, state-of-sitting, within-lines}
+use Rattle.register.specs.Calls.{sitting_handle}
 use Rattle.register.proofs.register.Register.commit.Goals as goal
 use Rattle.register.specs.Registers.{pool_of}
 
@@ -79,3 +81,39 @@ returns-clause-told g c =
 
 pub returns-clause-kept : goal.returns-clause-kept
 returns-clause-kept g c = λ i. record { place = (c.from_parts.ensures.place ∙ c.into_parts-place.ensures.place) i; serial = (c.from_parts.ensures.serial ∙ c.into_parts-place.ensures.serial) i }
+
+pub returns-in_default-clause-lines : goal.returns-in_default-clause-lines
+returns-in_default-clause-lines g c = rest-still c.args.self.now _ refl
+
+pub returns-in_default-clause-sittings : goal.returns-in_default-clause-sittings
+returns-in_default-clause-sittings g c = λ h apart. sit-still c.args.self.now _ refl h
+
+pub returns-then-height_of-gt-HIGHEST-clause-lines : goal.returns-then-height_of-gt-HIGHEST-clause-lines
+returns-then-height_of-gt-HIGHEST-clause-lines g c = rest-still c.args.self.now _ refl
+
+pub returns-then-height_of-gt-HIGHEST-clause-sittings : goal.returns-then-height_of-gt-HIGHEST-clause-sittings
+returns-then-height_of-gt-HIGHEST-clause-sittings g c = λ h apart. sit-still c.args.self.now _ refl h
+
+pub returns-then-is_short-clause-lines : goal.returns-then-is_short-clause-lines
+returns-then-is_short-clause-lines g c = rest-still c.args.self.now _ refl
+
+pub returns-then-is_short-clause-sittings : goal.returns-then-is_short-clause-sittings
+returns-then-is_short-clause-sittings g c = λ h apart. sit-still c.args.self.now _ refl h
+
+pub returns-clause-rests : goal.returns-clause-rests
+returns-clause-rests g c =
+    let self = c.args.self.now in
+    let put = put-at self.table.lines _ _ _ _ _ c.put.ensures c.into_parts-place.ensures.place (c.resting.ensures ∙ (λ i. resting_record (c.into_parts-place.ensures.serial i) c.add_stage-root.result)) in
+    rests-now self _ _ _ put (sitting_handle c.args.sitting) c.add_stage-root.result refl (within-lines self.table.lines _ _ (record-there self.table.lines _ _ _ c.in-Ok.ensures.0).0) refl
+
+pub returns-clause-lines : goal.returns-clause-lines
+returns-clause-lines g c =
+    let self = c.args.self.now in
+    let put = put-at self.table.lines _ _ _ _ _ c.put.ensures c.into_parts-place.ensures.place (c.resting.ensures ∙ (λ i. resting_record (c.into_parts-place.ensures.serial i) c.add_stage-root.result)) in
+    all-rest self _ _ _ put (ap rests (state-of-sitting self.table.lines _ _ _ _ _ c.in-Ok.ensures.0 c.in-Ok.ensures.1))
+
+pub returns-clause-sittings : goal.returns-clause-sittings
+returns-clause-sittings g c =
+    let self = c.args.self.now in
+    let put = put-at self.table.lines _ _ _ _ _ c.put.ensures c.into_parts-place.ensures.place (c.resting.ensures ∙ (λ i. resting_record (c.into_parts-place.ensures.serial i) c.add_stage-root.result)) in
+    others-sit self _ _ _ put (sitting_handle c.args.sitting) refl

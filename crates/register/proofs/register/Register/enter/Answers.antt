@@ -10,6 +10,7 @@ use Rattle.register.specs.Contents.{names}
 use Rattle.register.specs.Registers.{StepsTo, pool_of}
 use Rattle.register.specs.Tables.{line_of}
 use Rattle.register.specs.declared.refusal.Refusal.{Refusal}
+use Rattle.register.proofs.Handles.{all-rest, record-there, rest-still, rests, sit-still, sits-on, state-of-sitting}
 use Rattle.register.proofs.register.Register.enter.Goals as goal
 
 pub returns-in_err-record-clause-told : goal.returns-in_err-record-clause-told
@@ -106,3 +107,45 @@ returns-clause-told g c =
           (made (pool_of self) self.table.lines c.args.sitting.now.place c.args.sitting.now.serial (Some c.in_ok-record.record) c.in_ok-record.ensures.0 self.next c.args.name.now c.args.measured c.args.change c.in_ok-record.recorded c.in_ok-record.sheet c.in_ok-record.ensures.1 c.in_ok-name.ensures.0 c.in_ok-reading.ensures.0 (kind_of g.met.N.Key g.met.N.Ord.total) g.N.NameOrder.named g.N.NameOrder.name (ltb-false _ _ (sym c.is_late.ensures ∙ c.if-is_late.false)) c.from-measured.result c.from-measured.ensures c.from_name-name.result (c.from_name-name.ensures ∙ ap g.N.NameOrder.named c.in_ok-name.ensures.1) c.in_ok-card.ensures.declined c.change_sheet-sheet.result p' _ (put-at self.table.lines _ _ _ _ _ c.put.ensures c.place.ensures c.seated.ensures) (λ t hs. by-parts (pool_of self) p' _ _ (e.owned c.args.change t hs c.in_ok-reading.ensures.1)) c.change_sheet-sheet.ensures.used c.change_sheet-sheet.ensures.size s shows);
       unchanged = never;
     }
+
+pub returns-in_err-record-clause-lines : goal.returns-in_err-record-clause-lines
+returns-in_err-record-clause-lines g c = rest-still c.args.self.now _ refl
+
+pub returns-in_err-record-clause-sittings : goal.returns-in_err-record-clause-sittings
+returns-in_err-record-clause-sittings g c = sit-still c.args.self.now _ refl
+
+pub returns-in_err-name-clause-lines : goal.returns-in_err-name-clause-lines
+returns-in_err-name-clause-lines g c = rest-still c.args.self.now _ refl
+
+pub returns-in_err-name-clause-sittings : goal.returns-in_err-name-clause-sittings
+returns-in_err-name-clause-sittings g c = sit-still c.args.self.now _ refl
+
+pub returns-in_err-reading-clause-lines : goal.returns-in_err-reading-clause-lines
+returns-in_err-reading-clause-lines g c = rest-still c.args.self.now _ refl
+
+pub returns-in_err-reading-clause-sittings : goal.returns-in_err-reading-clause-sittings
+returns-in_err-reading-clause-sittings g c = sit-still c.args.self.now _ refl
+
+pub returns-then-is_late-clause-lines : goal.returns-then-is_late-clause-lines
+returns-then-is_late-clause-lines g c = rest-still c.args.self.now _ refl
+
+pub returns-then-is_late-clause-sittings : goal.returns-then-is_late-clause-sittings
+returns-then-is_late-clause-sittings g c = sit-still c.args.self.now _ refl
+
+pub returns-in_err-card-clause-lines : goal.returns-in_err-card-clause-lines
+returns-in_err-card-clause-lines g c = rest-still c.args.self.now _ refl
+
+pub returns-in_err-card-clause-sittings : goal.returns-in_err-card-clause-sittings
+returns-in_err-card-clause-sittings g c = sit-still c.args.self.now _ refl
+
+pub returns-clause-lines : goal.returns-clause-lines
+returns-clause-lines g c =
+    let self = c.args.self.now in
+    let put = put-at self.table.lines _ _ _ _ _ c.put.ensures c.place.ensures c.seated.ensures in
+    all-rest self _ _ _ put (ap rests (state-of-sitting self.table.lines _ _ _ _ _ c.in_ok-record.ensures.0 c.in_ok-record.ensures.1))
+
+pub returns-clause-sittings : goal.returns-clause-sittings
+returns-clause-sittings g c =
+    let self = c.args.self.now in
+    let put = put-at self.table.lines _ _ _ _ _ c.put.ensures c.place.ensures c.seated.ensures in
+    sits-on self _ _ _ put c.in_ok-record.record c.in_ok-record.recorded c.change_sheet-sheet.result (record-there self.table.lines _ _ _ c.in_ok-record.ensures.0).0 refl

@@ -1,14 +1,15 @@
-use Rattle.std.proofs.Common.{◌≡◌, sym, refl, ◌∙◌, subst, rules}
-use Rattle.register.specs.Calls.{fetches, handed, line_answer, refused}
+use Rattle.std.proofs.Common.{◌≡◌, sym, refl, ◌∙◌, subst, rules, Some, ap}
+use Rattle.register.specs.Calls.{fetches, handed, line_answer, refused, line_handle}
 use Rattle.register.specs.Contents.{names}
 use Rattle.register.specs.Registers.{Tells, pool_of}
 use Rattle.register.proofs.Passing.{passed}
 use Rattle.register.proofs.Keeping.{the_places}
 use Rattle.register.proofs.Shelving.{empty-shelf, fetched, kept-fetched}
 use Rattle.register.proofs.Memory.{unwritten}
-use Rattle.register.proofs.Telling.{never, put-at}
+use Rattle.register.proofs.Telling.{never, put-at, made_at}
 use Rattle.register.specs.declared.refusal.Refusal.{Refusal}
 use Rattle.register.specs.declared.refusal.Refusal.TheVariants.{ShelfEmpty}
+use Rattle.register.proofs.Handles.{all-rest, all-sit, rests-now, shelf-apart, within-lines}
 use Rattle.register.proofs.register.Register.fetch.Goals as goal
 
 pub returns-in_err-place-clause-told : goal.returns-in_err-place-clause-told
@@ -36,3 +37,18 @@ returns-clause-told g c =
           (λ i. handed (record { place = c.from_parts.ensures.place i; serial = c.from_parts.ensures.serial i }));
       unchanged = never;
     }
+
+pub returns-clause-rests : goal.returns-clause-rests
+returns-clause-rests g c =
+    let self = c.args.self.now in
+    rests-now self _ _ _ c.put.ensures (line_handle c.from_parts.result) c.in_ok-place.record.root c.from_parts.ensures.place (within-lines self.table.lines c.in_ok-place.place c.in_ok-place.record (search rules)) (ap Some (made_at _ _ _ _ (sym c.from_parts.ensures.serial) c.rested.ensures))
+
+pub returns-clause-lines : goal.returns-clause-lines
+returns-clause-lines g c =
+    let self = c.args.self.now in
+    all-rest self _ _ _ c.put.ensures (shelf-apart self.table.lines c.args.letter c.in_ok-place.place (search rules)).0
+
+pub returns-clause-sittings : goal.returns-clause-sittings
+returns-clause-sittings g c =
+    let self = c.args.self.now in
+    all-sit self _ _ _ c.put.ensures (shelf-apart self.table.lines c.args.letter c.in_ok-place.place (search rules)).1

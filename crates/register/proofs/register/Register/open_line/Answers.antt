@@ -1,12 +1,13 @@
-use Rattle.std.proofs.Common.{refl}
-use Rattle.register.specs.Calls.{handed, line_answer, opens}
+use Rattle.std.proofs.Common.{refl, ap, sym, Some}
+use Rattle.register.specs.Calls.{handed, line_answer, opens, line_handle}
 use Rattle.register.specs.Contents.{names}
 use Rattle.register.specs.Registers.{Tells, pool_of}
 use Rattle.register.proofs.Passing.{passed}
 use Rattle.register.proofs.Keeping.{the_places}
 use Rattle.register.proofs.Memory.{unwritten}
 use Rattle.register.proofs.Opening.{kept-opened, opened, unopened}
-use Rattle.register.proofs.Telling.{never, put-at}
+use Rattle.register.proofs.Telling.{never, put-at, made_at}
+use Rattle.register.proofs.Handles.{all-rest, all-sit, rests, rests-now, sits, vacant}
 use Rattle.register.proofs.register.Register.open_line.Goals as goal
 
 pub returns-in_err-place-clause-told : goal.returns-in_err-place-clause-told
@@ -29,3 +30,21 @@ returns-clause-told g c =
           (λ i. handed (record { place = c.from_parts.ensures.place i; serial = c.from_parts.ensures.serial i }));
       unchanged = never;
     }
+
+pub returns-clause-rests : goal.returns-clause-rests
+returns-clause-rests g c =
+    let self = c.args.self.now in
+    let free = vacant self.table.lines self.next c.in_ok-place.place c.in_ok-place.ensures in
+    rests-now self _ _ _ c.put.ensures (line_handle c.from_parts.result) 0 c.from_parts.ensures.place free.0 (ap Some (made_at _ _ _ 0 (sym c.from_parts.ensures.serial) c.resting.ensures))
+
+pub returns-clause-lines : goal.returns-clause-lines
+returns-clause-lines g c =
+    let self = c.args.self.now in
+    let free = vacant self.table.lines self.next c.in_ok-place.place c.in_ok-place.ensures in
+    all-rest self _ _ _ c.put.ensures (ap rests free.2)
+
+pub returns-clause-sittings : goal.returns-clause-sittings
+returns-clause-sittings g c =
+    let self = c.args.self.now in
+    let free = vacant self.table.lines self.next c.in_ok-place.place c.in_ok-place.ensures in
+    all-sit self _ _ _ c.put.ensures (ap sits free.2)

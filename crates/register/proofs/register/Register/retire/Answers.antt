@@ -7,6 +7,8 @@ use Rattle.register.proofs.Retiring.{kept-retired, retired, unretired}
 use Rattle.register.proofs.Telling.{never}
 use Rattle.register.specs.Registers.{pool_of}
 use Rattle.register.specs.Tables.{line_of}
+use Rattle.register.proofs.Handles.{all-sit, others-rest, refused-rest, rest-still, sit-still, sits, state-of-rest}
+use Rattle.register.specs.Calls.{line_handle}
 use Rattle.register.proofs.register.Register.retire.Goals as goal
 
 pub returns-in_default-clause-told : goal.returns-in_default-clause-told
@@ -48,3 +50,24 @@ returns-clause-told g c =
           p' c.free.new.self.lines c.in-Ok.ensures.1 (λ t hs. by-parts (pool_of self) p' _ _ (e.owned t hs)) (c.free.ensures ∙ ap (λ (k : ℕ). set self.table.lines k None) c.into_parts-place.ensures.place) _ self.next e.fewer e.size s shows);
       unchanged = never;
     }
+
+pub returns-in_default-clause-accepted : goal.returns-in_default-clause-accepted
+returns-in_default-clause-accepted g c =
+    let self = c.args.self.now in
+    refused-rest self (line_handle c.args.line) c.in_default.ensures.0
+
+pub returns-in_default-clause-lines : goal.returns-in_default-clause-lines
+returns-in_default-clause-lines g c = λ h apart. rest-still c.args.self.now _ refl h
+
+pub returns-in_default-clause-sittings : goal.returns-in_default-clause-sittings
+returns-in_default-clause-sittings g c = sit-still c.args.self.now _ refl
+
+pub returns-clause-lines : goal.returns-clause-lines
+returns-clause-lines g c =
+    let self = c.args.self.now in
+    others-rest self _ _ _ (c.free.ensures ∙ ap (λ (k : ℕ). set self.table.lines k None) c.into_parts-place.ensures.place) (line_handle c.args.line) refl
+
+pub returns-clause-sittings : goal.returns-clause-sittings
+returns-clause-sittings g c =
+    let self = c.args.self.now in
+    all-sit self _ _ _ (c.free.ensures ∙ ap (λ (k : ℕ). set self.table.lines k None) c.into_parts-place.ensures.place) (ap sits (state-of-rest self.table.lines _ _ _ c.in-Ok.ensures.0 c.in-Ok.ensures.1))

@@ -1,9 +1,11 @@
-use Rattle.std.proofs.Common.{Some, refl}
+use Rattle.std.proofs.Common.{Some, refl, ap}
 use Rattle.register.proofs.Keeping.{the_places}
 use Rattle.register.proofs.Shelving.{kept-stowed, stowed-on, unstowed}
 use Rattle.register.proofs.Memory.{unwritten}
 use Rattle.register.proofs.Telling.{never, put-at}
 use Rattle.register.specs.Tables.{line_of}
+use Rattle.register.proofs.Handles.{all-sit, others-rest, sits, state-of-rest, stowable-rests}
+use Rattle.register.specs.Calls.{line_handle}
 use Rattle.register.proofs.register.Register.stow.Goals as goal
 use Rattle.register.specs.Registers.{pool_of}
 
@@ -31,3 +33,13 @@ returns-clause-told g c =
           (put-at self.table.lines _ _ _ _ _ c.put.ensures c.into_parts-place.ensures.place c.stowed.ensures) _ self.next;
       unchanged = never;
     }
+
+pub returns-clause-lines : goal.returns-clause-lines
+returns-clause-lines g c =
+    let self = c.args.self.now in
+    others-rest self _ _ _ (put-at self.table.lines _ _ _ _ _ c.put.ensures c.into_parts-place.ensures.place c.stowed.ensures) (line_handle c.args.line) refl
+
+pub returns-clause-sittings : goal.returns-clause-sittings
+returns-clause-sittings g c =
+    let self = c.args.self.now in
+    all-sit self _ _ _ (put-at self.table.lines _ _ _ _ _ c.put.ensures c.into_parts-place.ensures.place c.stowed.ensures) (ap sits (state-of-rest self.table.lines _ _ _ c.in-Ok.ensures.0 (stowable-rests self.table.lines (Some c.in-Ok.record) c.args.letter c.in-Ok.ensures.1)))
