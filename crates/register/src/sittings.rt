@@ -1,14 +1,14 @@
 //! Beginning, committing and abandoning sittings.
 
 ghost use Rattle.std.specs.Prelude.{◌≡◌, ◌+◌, ◌^◌, ◌<◌, ◌≤◌, true, List, ◌∷◌, length, pos, is_err, nat_lt, IsOk, OnOk};
-ghost use Rattle.pool.specs.Held.{Carries, CarriesIn, Held, HoldsBy, OfParts, held, Holds};
+ghost use Rattle.pool.specs.Held.{Carries, CarriesIn, Held, HoldsBy, OfParts, held};
 ghost use Rattle.pool.specs.Sound.{memory_of, used_of};
 ghost use Rattle.pool.specs.Tree.{Tree};
 ghost use Rattle.tree.specs.Append.{Behind};
 ghost use Rattle.tree.specs.Insert.{compared, insert as inserted};
 ghost use Rattle.tree.specs.Insertable.{Insertable};
 ghost use Rattle.tree.specs.Readable.{Readable};
-ghost use Rattle.tree.specs.Shape.{Balanced, height};
+ghost use Rattle.tree.specs.Shape.{height};
 ghost use Rattle.register.specs.Calls.{abandons, begins, commits, done_answer, line_handle, sitting_handle};
 ghost use Rattle.register.specs.Contents.{earlier, instant_at, names};
 ghost use Rattle.register.specs.Found.{SheetBefore, not_after_stage, sheet_in};

@@ -1,14 +1,13 @@
 //! Runs a script in a register of its own.
 
-ghost use Rattle.std.specs.Prelude.{◌≡◌, ℕ, ◌<◌, ◌≤◌, min, List, length, drop, take, IfOk, Some, None, MatchResult};
+ghost use Rattle.std.specs.Prelude.{◌≡◌, ◌<◌, ◌≤◌, min, length, drop, take, Some, None, MatchResult};
 ghost use Rattle.register.specs.Registers.{SameLoan, ShownBy};
 ghost use Rattle.register.specs.Runs.{Moment};
 ghost use Rattle.register.specs.Shown.{Shown};
 ghost use Rattle.register.specs.declared.refusal.Refusal.TheVariants.{ReportFull};
 ghost use Rattle.script.specs.Fields.{left};
-ghost use Rattle.report.specs.Report.{KeepsRoom, LineAdded, LineRefused, capacity, used};
+ghost use Rattle.report.specs.Report.{KeepsRoom, used};
 ghost use Rattle.script.specs.Commands.{requested};
-ghost use Rattle.script.specs.Reports.{answer_line, refusals};
 ghost use Rattle.script.specs.Runs.{Answered, Carried, Ended, forward};
 ghost use Rattle.script.specs.Standings.{Leads, Ready, Stands, moment, standing};
 ghost use Rattle.script.specs.Scripts.{Finished, RanLine, RanLines, TooLong};
