@@ -14,3 +14,4 @@ pub use command::{Command, read_command};
 pub use lexer::{Field, Lexer, Part};
 pub use lines::line_end;
 pub use runner::{Stopped, run};
+pub use script_lines::{ScriptLine, ScriptLines};

@@ -193,7 +193,7 @@ impl Runner<'_> {
             if line.is_empty() {
                 continue;
             }
-            let (ran, next) = self.run_line(seat, report, Lexer::new(line, 0, line.len()));
+            let (ran, next) = self.run_line(seat, report, line.fields());
             seat = next;
             if ran.is_err() {
                 return (ran, seat);
