@@ -4,16 +4,10 @@
 
 ghost use Rattle.std.specs.Prelude.{◌≤◌, IfOk, vec_len};
 
-use pool::Node;
-use script::run;
+use script::{REPORT_BYTES, run_audit};
 use std::io;
 use std::io::{Read, Write};
 
-const NODES: usize = 1024;
-
-const FIRST_SERIAL: u32 = 1;
-
-const REPORT_BYTES: usize = 65536;
 /// One byte more than the longest script, so that a longer one shows.
 const SCRIPT_BYTES: usize = 32769;
 
@@ -30,13 +24,11 @@ fn read_script(rt: &HostRuntime) -> io::Result<Vec<u8>>
     Ok(script)
 }
 
-/// Prints the report of the script; a refusal is an error after the report's whole lines. The nodes and the report are arrays,
-/// since `run` works in memory that it is lent.
+/// Prints the report of the script; a refusal is an error after the report's whole lines.
 fn audit(rt: &HostRuntime) -> anyhow::Result<()> {
     let script = read_script(rt)?;
-    let mut nodes = [Node::default(); NODES];
     let mut report = [0; REPORT_BYTES];
-    let (length, ended) = match run(&script, &mut nodes, FIRST_SERIAL, &mut report) {
+    let (length, ended) = match run_audit(&script, &mut report) {
         Ok(length) => (length, Ok(())),
         Err(stopped) => (stopped.length, Err(stopped.into())),
     };

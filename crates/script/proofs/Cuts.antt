@@ -1,10 +1,12 @@
 -- Where a script is cut into lines, and a line into fields: before the first byte that stops a part.
 use Rattle.std.proofs.Common.{◌≡◌, ℕ, suc, ◌+◌, ◌-◌, ◌<◌, ◌≤◌, ◌==◌, eqb, ltb, not, true, false, List, [], ◌∷◌, length, take, drop, sym, refl, ap, ◌∙◌, inl, inr, arith, length-drop}
-use Rattle.std.proofs.lemmas.List.{drop-drop}
-use Rattle.std.proofs.lemmas.Slice.{between_to_end}
+use Rattle.std.proofs.lemmas.List.{drop-drop, length-take-le}
+use Rattle.std.proofs.lemmas.Slice.{between_is, between_to_end}
 use Rattle.std.proofs.lemmas.Bool.{cond-true, cond-false, lt-ltb, le-ltb, cases_lt, cases_Bool}
 use Rattle.std.specs.List.{prefix_len}
-use Rattle.script.specs.Lines.{on_first, lines_of}
+use Rattle.script.specs.Lines.{on_first, lines_of, line_bytes, lines_left, GivesLine}
+use Rattle.script.specs.declared.script_lines.ScriptLine.{ScriptLine}
+use Rattle.script.specs.declared.script_lines.ScriptLines.{ScriptLines}
 use Rattle.script.specs.Fields.{fields_of, fields_from}
 
 -- how many bytes stand before the first that is this one
@@ -39,6 +41,29 @@ line-at script start n some is =
     let behind : drop (suc (before 10 rest)) rest ≡ drop (start + n + 1) script =
     drop-drop (suc (before 10 rest)) start script ∙ ap (λ i. drop i script) (omega arith) in
     lines-cut rest (omega (arith, length-drop start script)) ∙ (λ i. take (n-is i) rest ∷ lines_of (behind i))
+
+-- all lines of a script are left at its start
+pub all-left : (lines : ScriptLines) (script : List ℕ) → lines.script.now ≡ script → lines.next ≡ 0 → lines_left lines ≡ lines_of script
+all-left lines script same start = λ i. lines_of (drop (start i) (same i))
+
+-- the lines behind one that ends here
+abbrev pub past : ScriptLines → ℕ → ScriptLines
+past lines end = record { script = lines.script; next = end + 1 }
+
+-- The line from the next place up to its end is given.
+pub line_given : (before : ScriptLines) (line : ScriptLine) (end : ℕ) → line.script.now ≡ take end before.script.now → line.start ≡ before.next → before.next ≤ end → end ≤ length before.script.now
+    → lines_left before ≡ take (end - before.next) (drop before.next before.script.now) ∷ lines_of (drop (end + 1) before.script.now) → GivesLine before line (past before end)
+line_given before line end front place begun within cut =
+    let script : List ℕ = before.script.now in
+    let long : length line.script.now ≡ end = ap length front ∙ length-take-le end script within in
+    let bytes : take (end - before.next) (drop before.next script) ≡ line_bytes line =
+    between_is script before.next end ∙ (λ i. drop ((sym place) i) ((sym front) i)) in
+    record {
+      lines = cut ∙ ap (λ (first : List ℕ). first ∷ lines_of (drop (end + 1) script)) bytes;
+      place = place;
+      inside = omega arith;
+      front = front ∙ ap (λ n. take n script) (sym long);
+    }
 
 -- the fields from a place that is not past the end
 pub fields-inside : (line : List ℕ) (place : ℕ) → place ≤ length line → fields_from line place ≡ fields_of (drop place line)

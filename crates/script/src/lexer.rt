@@ -1,6 +1,6 @@
 //! The fields of a line, read one by one.
 
-ghost use Rattle.std.specs.Prelude.{◌≡◌, ◌-◌, ◌<◌, ◌↔◌, length, take, drop, IsNone, IfSome};
+ghost use Rattle.std.specs.Prelude.{◌≡◌, ◌-◌, ◌<◌, ◌↔◌, min, length, take, drop, IsNone, IfSome};
 ghost use Rattle.script.specs.Fields.{fields_of, Parts, text_of, IsFieldOf, IsNextPart, Lexed, left};
 ghost use Rattle.script.specs.Numerals.{number_of, instant_of, reading_of, byte_of, NumberWritten, ReadingWritten};
 
@@ -101,6 +101,7 @@ impl<'s> Lexer<'s> {
     #[tactic(auto, using(crate::proofs::Lexing::new_fields))]
     pub fn new(script: &'s [u8], start: usize, end: usize) -> Lexer<'s>
         ensures script { result.script.now ≡ take end script.now }
+        ensures place { result.next ≡ min start (length (take end script.now)) }
         ensures fields { left result ≡ fields_of (take (end - start) (drop start script.now)) }
         ensures parts { Parts (take (end - start) (drop start script.now)) (left result) }
     {

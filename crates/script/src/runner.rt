@@ -201,12 +201,7 @@ impl Progress {
             if line.is_empty() {
                 continue;
             }
-            let (ran, next) = self.run_line(
-                register,
-                seat,
-                report,
-                Lexer::new(line, 0, line.len()),
-            );
+            let (ran, next) = self.run_line(register, seat, report, line.fields());
             seat = next;
             if ran.is_err() {
                 return (ran, seat);

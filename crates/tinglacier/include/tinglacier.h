@@ -1,8 +1,9 @@
 /* The register for C: a script is run in memory that the caller lends.
-   docs/linking.md says how to build and link the library, and what it trusts its caller to keep. */
+   It is for C11 and C++11, and later. docs/linking.md says how to build and link the library, and what it trusts its caller to keep. */
 #ifndef TINGLACIER_H
 #define TINGLACIER_H
 
+#include <assert.h>
 #include <stddef.h>
 #include <stdint.h>
 
@@ -33,6 +34,12 @@ typedef struct tinglacier_outcome {
     size_t length;
     uint8_t refusal;
 } tinglacier_outcome;
+
+/* The library has these layouts, which its contract states. */
+static_assert(sizeof(tinglacier_node) == 40, "a node has 40 bytes");
+static_assert(sizeof(tinglacier_outcome) == 16, "an outcome has 16 bytes");
+static_assert(offsetof(tinglacier_outcome, length) == 0, "the length lies at the front");
+static_assert(offsetof(tinglacier_outcome, refusal) == 8, "the refusal lies behind the length");
 
 /* Runs a script in a new register over the lent nodes, and writes the report.
    It reads the script_length bytes at script. It writes only the nodes, of which it uses the first TINGLACIER_MOST_NODES at most,

@@ -1,2 +1,4 @@
 pub mod Numbers
 pub mod Outcomes
+pub mod Texts
+pub mod Layouts

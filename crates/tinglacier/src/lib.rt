@@ -1,10 +1,14 @@
 //! The register for C: a script is run in memory that the caller lends.
 #![tactic(auto)]
 
-ghost use Rattle.std.specs.Prelude.{◌≡◌, ◌<◌, ◌≤◌, min, length, drop};
+ghost use Rattle.std.specs.Prelude.{◌≡◌, ◌<◌, ◌≤◌, [], min, length, drop};
+ghost use Rattle.register.specs.Refusals.{refusal_text};
+ghost use Rattle.register.specs.declared.refusal.Refusal.{Refusal};
 ghost use Rattle.script.specs.Runs.{beginning};
-ghost use Rattle.tinglacier.specs.Numbers.{OfNone};
+ghost use Rattle.tinglacier.specs.Layouts.{NodeLayout, OutcomeLayout};
+ghost use Rattle.tinglacier.specs.Numbers.{HasNumber, OfNone};
 ghost use Rattle.tinglacier.specs.Outcomes.{NotRun, Reported};
+ghost use Rattle.tinglacier.specs.Texts.{Copied};
 
 mod outcome;
 #[cfg(test)]
@@ -14,7 +18,7 @@ mod text;
 pub use outcome::Outcome;
 use pool::Node;
 use script::run;
-use text::text_of;
+use text::{copy_front, text_of};
 
 /// Runs a script in a register made over `nodes`, and writes its report into `report`.
 #[unsafe(no_mangle)]
@@ -24,6 +28,8 @@ pub extern "C" fn tinglacier_run(
     first_serial: u32,
     report: &mut [u8],
 ) -> Outcome
+    ensures node_layout { NodeLayout }
+    ensures outcome_layout { OutcomeLayout }
     ensures within { result.length ≤ length report.old }
     ensures beyond { drop 65535 nodes.new ≡ drop 65535 nodes.old }
     ensures long { 32768 < length script.now → NotRun result report.old report.new × (nodes.new ≡ nodes.old) }
@@ -32,16 +38,12 @@ pub extern "C" fn tinglacier_run(
     Outcome::from(run(script, nodes, first_serial, report))
 }
 
-/// Writes the text of the refusal that has the number, as far as it fits into `text`. Gives the bytes written, which are 0 where
+/// Writes the text of the refusal that has the number, as far as it fits into `room`. Gives the bytes written, which are 0 where
 /// no refusal has the number.
 #[unsafe(no_mangle)]
-pub extern "C" fn tinglacier_refusal_text(number: u8, text: &mut [u8]) -> usize
-    ensures within { result ≤ length text.old }
-    ensures behind { drop result text.new ≡ drop result text.old }
-    ensures none { OfNone number → result ≡ 0 }
+pub extern "C" fn tinglacier_refusal_text(number: u8, room: &mut [u8]) -> usize
+    ensures text { (why : Refusal) → HasNumber number why → Copied (refusal_text why) result room.old room.new }
+    ensures none { OfNone number → Copied [] result room.old room.new }
 {
-    let whole = text_of(number);
-    let length = whole.len().min(text.len());
-    text[..length].copy_from_slice(&whole.as_bytes()[..length]);
-    length
+    copy_front(text_of(number), room)
 }

@@ -26,17 +26,11 @@ fn a_script_is_run(rt: HostRuntime) {
 }
 
 #[test]
-fn every_refusal_has_a_text(rt: HostRuntime) {
-    for number in 0..=255 {
-        let length = tinglacier_refusal_text(number, &mut [0; 128]);
-        let refused = (1..=15).contains(&number) || (17..=20).contains(&number);
-        assert_eq!(rt; length > 0, refused, "{number}");
-    }
-}
-
-#[test]
 fn a_text_is_cut_to_its_room(rt: HostRuntime) {
-    let mut room = [0; 10];
-    assert_eq!(rt; tinglacier_refusal_text(20, &mut room), 10);
-    assert_eq!(rt; room, *b"the report");
+    let mut room = [b' '; 24];
+    assert_eq!(rt; tinglacier_refusal_text(20, &mut room), 23);
+    assert_eq!(rt; room, *b"the report does not fit ");
+    let mut short = [0; 10];
+    assert_eq!(rt; tinglacier_refusal_text(20, &mut short), 10);
+    assert_eq!(rt; short, *b"the report");
 }

@@ -1,14 +1,10 @@
-//! The refusal that has a number, and its text.
+//! The refusal that has a number, its text, and what of a text fits.
 
 ghost use Rattle.std.specs.Prelude.{◌≡◌, [], MatchOption};
 ghost use Rattle.tinglacier.specs.Numbers.{HasNumber, OfNone};
+ghost use Rattle.tinglacier.specs.Texts.{TextOf, Copied};
 
-use arrayvec::ArrayString;
 use register::Refusal;
-use std::fmt::Write;
-
-/// Room for the text of every refusal.
-const LONGEST_TEXT: usize = 128;
 
 /// The refusal that has the number.
 fn refusal_of(number: u8) -> Option<Refusal>
@@ -39,12 +35,20 @@ fn refusal_of(number: u8) -> Option<Refusal>
 }
 
 /// The text of the refusal that has the number; empty, where none has it.
-pub fn text_of(number: u8) -> ArrayString<LONGEST_TEXT>
-    ensures { OfNone number → result.bytes ≡ [] }
+pub fn text_of(number: u8) -> &'static [u8]
+    ensures { TextOf number result.now }
 {
-    let mut text = ArrayString::new();
-    if let Some(why) = refusal_of(number) {
-        let _ = write!(text, "{why}");
+    match refusal_of(number) {
+        Some(why) => why.text().as_bytes(),
+        None => b"",
     }
-    text
+}
+
+/// Copies the bytes to the front of the room, as many as fit, and gives their number.
+pub fn copy_front(bytes: &[u8], room: &mut [u8]) -> usize
+    ensures { Copied bytes.now result room.old room.new }
+{
+    let length = bytes.len().min(room.len());
+    room[..length].copy_from_slice(&bytes[..length]);
+    length
 }
