@@ -1,13 +1,12 @@
 //! The register for C: a script is run in memory that the caller lends.
 #![tactic(auto)]
 
-ghost use Rattle.std.specs.Prelude.{◌≡◌, ◌<◌, ◌≤◌, [], min, length, drop};
+ghost use Rattle.std.specs.Prelude.{◌≡◌, ◌<◌, ◌≤◌, [], min, length, drop, take};
 ghost use Rattle.register.specs.Refusals.{refusal_text};
 ghost use Rattle.register.specs.declared.refusal.Refusal.{Refusal};
-ghost use Rattle.script.specs.Runs.{beginning};
 ghost use Rattle.tinglacier.specs.Layouts.{NodeLayout, OutcomeLayout};
 ghost use Rattle.tinglacier.specs.Numbers.{HasNumber, OfNone};
-ghost use Rattle.tinglacier.specs.Outcomes.{NotRun, Reported};
+ghost use Rattle.tinglacier.specs.Outcomes.{NotRun, Ran};
 ghost use Rattle.tinglacier.specs.Texts.{Copied};
 
 mod outcome;
@@ -20,7 +19,9 @@ use pool::Node;
 use script::run;
 use text::{copy_front, text_of};
 
-/// Runs a script in a register made over `nodes`, and writes its report into `report`.
+/// Runs a script in a register made over `nodes`, and writes its report into `report`. The register's nodes are the first of `nodes`,
+/// 65,535 at most; all of them are free afterwards. What lies behind them is not written. A script of more than 32,768 bytes writes
+/// nothing.
 #[unsafe(no_mangle)]
 pub extern "C" fn tinglacier_run(
     script: &[u8],
@@ -33,7 +34,7 @@ pub extern "C" fn tinglacier_run(
     ensures within { result.length ≤ length report.old }
     ensures beyond { drop 65535 nodes.new ≡ drop 65535 nodes.old }
     ensures long { 32768 < length script.now → NotRun result report.old report.new × (nodes.new ≡ nodes.old) }
-    ensures ran { length script.now ≤ 32768 → Reported (beginning (min (length nodes.old) 65535) first_serial) script.now result report.old report.new }
+    ensures ran { length script.now ≤ 32768 → Ran (min (length nodes.old) 65535) first_serial script.now result report.old report.new (take 65535 nodes.new) }
 {
     Outcome::from(run(script, nodes, first_serial, report))
 }
