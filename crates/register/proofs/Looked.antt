@@ -12,7 +12,6 @@ use Rattle.kinds.specs.declared.instant.Instant.{Instant}
 use Rattle.kinds.specs.declared.name.Name.{Name}
 use Rattle.kinds.specs.declared.reading.Reading.{Reading}
 use Rattle.pool.specs.Tree.{Tree, leaf}
-use Rattle.pool.specs.declared.pool.Pool.{Pool}
 use Rattle.tree.proofs.Looking.{at_most-items}
 use Rattle.tree.specs.Answer.{GivenItem}
 use Rattle.tree.specs.Lookup.{by_order, first_after, first_of, last_at_most, last_of, or_else}

@@ -1,11 +1,11 @@
 -- A register's pool before and after a call on the part of the memory that is the register's.
-use Rattle.std.proofs.Common.{◌≡◌, ℕ, ◌≤◌, List, ◌++◌, length, take, drop, min, Option, sym, refl, ap, ◌∙◌, subst, arith, length-append}
+use Rattle.std.proofs.Common.{◌≡◌, ℕ, ◌≤◌, List, ◌++◌, length, take, drop, Option, sym, refl, ap, ◌∙◌, subst, arith, length-append}
 use Rattle.std.proofs.Props.{props}
 use Rattle.std.specs.Borrow.{MutBor}
-use Rattle.std.proofs.lemmas.List.{length-drop, length-take, take_at}
+use Rattle.std.proofs.lemmas.List.{length-take, take_at}
 use mathlib.Core.Logic.{∥∥₁_prop}
 use Rattle.pool.proofs.Pools.{holds-in, holds_at}
-use Rattle.pool.specs.Held.{Held, Holds, HoldsBy, HoldsIn}
+use Rattle.pool.specs.Held.{Held, Holds, HoldsIn}
 use Rattle.pool.specs.Sound.{memory_of, used_of}
 use Rattle.pool.specs.declared.node.Node.{Node}
 use Rattle.pool.specs.declared.pool.Pool.{Pool}
@@ -13,7 +13,7 @@ use Rattle.pool.specs.declared.state.PoolState.{PoolState}
 use Rattle.tree.specs.Insertable.{Insertable}
 use Rattle.register.specs.Contents.{Names}
 use Rattle.register.specs.Entries.{Enterable}
-use Rattle.register.specs.Kept.{Kept, pool_in}
+use Rattle.register.specs.Kept.{Kept}
 use Rattle.register.specs.Places.{Place}
 use Rattle.register.specs.Registers.{SameLoan, pool_of}
 use Rattle.register.specs.Shown.{Shown, Shows}

@@ -1,15 +1,13 @@
 -- What a call tells, from its conditions and its effect.
-use Rattle.std.proofs.Common.{◌≡◌, ℕ, ◌≤◌, Bool, true, false, List, ◌∷◌, length, set, Some, None, Option, sym, refl, ap, ◌∙◌, subst, arith}
+use Rattle.std.proofs.Common.{◌≡◌, ℕ, Bool, true, false, List, ◌∷◌, set, Some, None, Option, sym, refl, ap, ◌∙◌, subst, arith}
 use Rattle.pool.proofs.Pools.{holds-leaf}
 use Rattle.pool.specs.Held.{Held, Holds}
-use Rattle.pool.specs.Sound.{memory_of, used_of}
 use Rattle.pool.specs.Tree.{leaf}
 use Rattle.pool.specs.declared.pool.Pool.{Pool}
 use Rattle.register.specs.Calls.{Answer, Call, refused}
 use Rattle.register.specs.Contents.{Names}
 use Rattle.register.specs.Declined.{declined}
-use Rattle.register.specs.Kept.{Kept}
-use Rattle.register.specs.Places.{Place, none}
+use Rattle.register.specs.Places.{none}
 use Rattle.register.specs.Refusals.{first_of}
 use Rattle.register.specs.Registers.{Answers, Tells}
 use Rattle.register.specs.Shown.{Shown, Shows}
