@@ -45,7 +45,8 @@ fn let_go(nodes: &mut [Node], state: &mut PoolState, line: Record)
 
 impl<'m, N: NameOrder> Register<'m, N> {
     /// A register over this memory, with all nodes and lines free and all shelves empty.
-    /// Its nodes are the first of the memory, 65,535 at most. What lies behind them is never written.
+    /// Its nodes are the first of the memory, 65,535 at most. What lies behind them is never written. The first line gets the
+    /// first serial; where that is 4,294,967,295, no line can be opened.
     pub fn new(memory: &'m mut [Node], first_serial: u32) -> Register<'m, N>
         ensures shown { ShownBy (names N.Key.words N.Key.key N.cmp N.NameOrder.named N.NameOrder.name) result (newly_made (min (length memory.old) 65535) first_serial) }
         ensures borrow { result.nodes.ghost_name ≡ memory.entry.ghost_name }

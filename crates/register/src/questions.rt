@@ -39,7 +39,7 @@ pub struct Tally {
 }
 
 impl Tally {
-    /// Of these nodes, and so many lines.
+    /// Of these nodes, 65,535 at most, of which the state says how many are in use, and of so many lines.
     fn of(nodes: &[Node], state: PoolState, lines: u32) -> Tally
         requires small { length nodes.now ≤ 65535 }
         requires within { state.used ≤ length nodes.now }
