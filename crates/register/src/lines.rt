@@ -1,7 +1,7 @@
 //! Opening, branching, stowing, fetching and retiring lines.
 
-ghost use Rattle.std.specs.Prelude.{◌≡◌, ◌+◌, ◌^◌, ◌<◌, ◌≤◌, drop, min, true, List, ◌∷◌, length, is_err};
-ghost use Rattle.pool.specs.Held.{CarriesIn, Held, HoldsBy, held};
+ghost use Rattle.std.specs.Prelude.{◌≡◌, ◌+◌, ◌^◌, ◌<◌, ◌≤◌, drop, min, take, true, List, [], ◌∷◌, length, is_err};
+ghost use Rattle.pool.specs.Held.{CarriesIn, Held, HoldsBy, HoldsIn, held};
 ghost use Rattle.pool.specs.Tree.{Tree};
 ghost use Rattle.register.specs.Calls.{branch_answer, branches, done_answer, fetches, line_answer, line_handle, opens, retires, stows};
 ghost use Rattle.register.specs.Contents.{names};
@@ -43,6 +43,18 @@ fn let_go(nodes: &mut [Node], state: &mut PoolState, line: Record)
     state.release(nodes, line.root);
 }
 
+/// Makes the first nodes of a memory free, so many as the size says. What lies behind them is not written.
+fn free_first(memory: &mut [Node], size: usize) -> PoolState
+    requires small { size ≤ 65535 }
+    requires within { size ≤ length memory.old }
+    ensures used { result.used ≡ 0 }
+    ensures free { HoldsIn (take size memory.new) result.free result.used [] }
+    ensures long { length memory.new ≡ length memory.old }
+    ensures behind { drop size memory.new ≡ drop size memory.old }
+{
+    PoolState::new(&mut memory[..size])
+}
+
 impl<'m, N: NameOrder> Register<'m, N> {
     /// A register over this memory, with all nodes and lines free and all shelves empty.
     /// Its nodes are the first of the memory, 65,535 at most. What lies behind them is never written. The first line gets the
@@ -54,7 +66,7 @@ impl<'m, N: NameOrder> Register<'m, N> {
         ensures behind { drop result.size result.nodes.now ≡ drop result.size memory.old }
     {
         let size = memory.len().min(MOST_NODES);
-        let state = PoolState::new(&mut memory[..size]);
+        let state = free_first(memory, size);
         Register {
             nodes: memory,
             size,
