@@ -1,4 +1,4 @@
-use Rattle.std.proofs.Common.{◌≡◌, ◌≤◌, refl, length, min, take, arith}
+use Rattle.std.proofs.Common.{◌≡◌, refl, length, min, take, arith}
 use Rattle.std.proofs.lemmas.List.{length-take}
 use Rattle.pool.proofs.Pools.{holds_at}
 use Rattle.register.proofs.Making.{kept_new, shows-new}
