@@ -13,6 +13,7 @@ pub use look::node_in;
 /// their memory is lent, and 0 names none, as in a node's links. They are 65,535 at most, so `as u16` is proved to lose nothing.
 #[derive(Drop)]
 pub struct Pool<'m> {
+    /// The nodes, borrowed for as long as the pool is there.
     nodes: &'m mut [Node],
     /// The first node of the free list, or 0.
     free: u16,

@@ -1,10 +1,12 @@
 -- Lists of keys with values in a lawful order: what a key has after a put or a drop, and that ascending keys still ascend.
-use Rattle.std.proofs.Common.{◌≡◌, ℕ, List, [], ◌∷◌, Some, None, Option, Less, Equal, sym, refl, ap, ◌∙◌, subst, arith}
+use Rattle.std.proofs.Common.{◌≡◌, ℕ, List, [], ◌∷◌, Some, None, Option, Less, Equal, Greater, sym, refl, ap, ◌∙◌, subst, arith}
 use Rattle.std.proofs.ByRecursion.{All-weaker}
-use Rattle.std.proofs.lemmas.Bool.Decides.{nat_tests}
+use Rattle.std.proofs.lemmas.Cmp.{nat_cmp_total, tied_itself}
+use Rattle.std.proofs.lemmas.Map.Lookups.{exact_unsigned}
 use Rattle.std.specs.List.{AllByRecursion}
 use Rattle.std.specs.Ordering.{nat_cmp}
 use Rattle.pool.specs.declared.node.Words.{Words}
+use Rattle.tree.proofs.Bound.{turned}
 use Rattle.tree.proofs.Orders.{same_key, self}
 use Rattle.tree.proofs.Steps.{by-order}
 use Rattle.tree.specs.Kind.{Kind}
@@ -20,11 +22,11 @@ numbers =
       key = λ w. w.low;
       order = nat_cmp;
       back = λ n. refl;
-      equal = λ a b e. let same : a ≡ b = ap (λ (w : Words). w.low) e in grind (arith, nat_tests);
-      same = λ a b e. let same : a ≡ b = grind (arith, nat_tests) in ap (λ (n : ℕ). record { high = 0; low = n }) same;
-      after = λ a b e. grind (arith, nat_tests);
-      before = λ a b e. grind (arith, nat_tests);
-      chained = λ a b c p q. grind (arith, nat_tests);
+      equal = λ a b e. ap (nat_cmp a) (sym (ap (λ (w : Words). w.low) e)) ∙ tied_itself nat_cmp_total a;
+      same = λ a b e. ap (λ (n : ℕ). record { high = 0; low = n }) (exact_unsigned a b e);
+      after = λ a b. turned nat_cmp_total a b Less;
+      before = λ a b. turned nat_cmp_total a b Greater;
+      chained = nat_cmp_total.trans;
     }
 
 module _ {K : Type 0} (𝓚 : Kind K) where

@@ -1,11 +1,9 @@
 -- Instants as a kind of key, and the order of names that a kind of key gives.
-use Rattle.std.proofs.Common.{◌≡◌, ℕ, ap, arith}
-use Rattle.std.proofs.lemmas.Bool.Decides.{nat_tests}
 use Rattle.kinds.specs.Instants.{instant_of-seconds}
 use Rattle.kinds.specs.declared.instant.Instant.{Instant}
 use Rattle.kinds.specs.declared.name.Name.{Name}
-use Rattle.pool.specs.declared.node.Words.{Words}
 use Rattle.tree.specs.Kind.{Kind}
+use Rattle.register.proofs.Listing.{numbers}
 use Rattle.register.specs.Contents.{Names, earlier, instant_at, names}
 use Rattle.register.specs.Trees.{instant_words}
 
@@ -19,9 +17,9 @@ instants =
       key = instant_at;
       order = earlier;
       back = instant_of-seconds;
-      equal = λ a b e. let same : a.seconds ≡ b.seconds = ap (λ (w : Words). w.low) e in grind (arith, nat_tests);
-      same = λ a b e. let same : a.seconds ≡ b.seconds = grind (arith, nat_tests) in ap (λ (n : ℕ). record { high = 0; low = n }) same;
-      after = λ a b e. grind (arith, nat_tests);
-      before = λ a b e. grind (arith, nat_tests);
-      chained = λ a b c p q. grind (arith, nat_tests);
+      equal = λ a b. numbers.equal a.seconds b.seconds;
+      same = λ a b. numbers.same a.seconds b.seconds;
+      after = λ a b. numbers.after a.seconds b.seconds;
+      before = λ a b. numbers.before a.seconds b.seconds;
+      chained = λ a b c. numbers.chained a.seconds b.seconds c.seconds;
     }

@@ -23,7 +23,7 @@ use Rattle.register.specs.Worked.{WorkedExamples, card_then, standing}
 use Rattle.register.specs.WorkedScript.{forward, gauge, history}
 
 -- names by their bytes are a kind of key
-abbrev by_bytes : Kind Name
+by_bytes : Kind Name
 by_bytes =
     record {
       words = forward.words;
@@ -53,9 +53,11 @@ well-named : AllByRecursion (λ (s : Stage). WellNamed s.entries) history
 well-named = ((is_name, (is_name, tt)), ((is_name, (is_name, tt)), tt))
 
 latest : (recorded measured : ℕ) → IsAsOf (standing recorded) measured (last_up_to measured (card_then recorded))
+unfolding by_bytes
 latest recorded measured = as-of-answer by_bytes (λ n. n) (λ n. n) (λ n. n) (λ n. refl) recorded history in-time well-named gauge is_name measured
 
 total : (recorded from to : ℕ) → IsTotal (standing recorded) from to (count_within from to (card_then recorded)) (sum_within from to (card_then recorded))
+unfolding by_bytes
 total recorded from to = total-answer by_bytes (λ n. n) (λ n. n) (λ n. n) (λ n. refl) recorded history in-time well-named gauge is_name from to
 
 pub worked-examples : WorkedExamples

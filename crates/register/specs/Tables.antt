@@ -40,6 +40,20 @@ serial_in place = option_map_or (λ line. line.serial) place 0
 abbrev pub state_in : Option Record → Option State
 state_in place = option_map (λ line. line.state) place
 
+-- the root of a sitting's working sheet; 0 where the line is in no sitting, or the place has none
+abbrev pub working_root : State → ℕ
+working_root AtRest = 0
+working_root (Sitting recorded sheet) = sheet
+working_root (Stowed letter) = 0
+
+abbrev pub working_in : Option Record → ℕ
+working_in place = option_map_or (λ line. working_root line.state) place 0
+
+-- the outside owners of nodes: the root of each line, and of its working sheet
+abbrev pub roots_in : List (Option Record) → List ℕ
+roots_in [] = []
+roots_in (place ∷ places) = root_in place ∷ working_in place ∷ roots_in places
+
 -- the line, if it has this serial
 abbrev pub with_serial : ℕ → Option Record → Option Record
 with_serial serial None = None

@@ -4,6 +4,7 @@
 
 mod entries;
 mod handle;
+mod law;
 mod lines;
 mod questions;
 mod refusal;
@@ -16,6 +17,7 @@ mod worked;
 
 pub use entries::Change;
 pub use handle::{Handle, InSitting, Line, Parts, Refused, Resting, Sitting};
+pub use law::every_run_is_lawful;
 pub use questions::Tally;
 pub use refusal::Refusal;
 pub use register::{MOST_NODES, Register};

@@ -1,7 +1,7 @@
 //! Opening, branching, stowing, fetching and retiring lines.
 
-ghost use Rattle.std.specs.Prelude.{◌≡◌, ◌+◌, ◌^◌, ◌<◌, ◌≤◌, drop, min, true, List, ◌∷◌, length, is_err, ◌≢◌, IfOk, IsOk};
-ghost use Rattle.pool.specs.Held.{CarriesIn, Held, HoldsBy, held};
+ghost use Rattle.std.specs.Prelude.{◌≡◌, ◌+◌, ◌^◌, ◌<◌, ◌≤◌, drop, min, true, List, ◌∷◌, length, is_err, ◌≢◌, IfOk, IsOk, take, []};
+ghost use Rattle.pool.specs.Held.{CarriesIn, Held, HoldsBy, held, HoldsIn};
 ghost use Rattle.pool.specs.Tree.{Tree};
 ghost use Rattle.register.specs.Calls.{branch_answer, branches, done_answer, fetches, line_answer, line_handle, opens, retires, stows};
 ghost use Rattle.register.specs.Contents.{names};
@@ -43,9 +43,22 @@ fn let_go(nodes: &mut [Node], state: &mut PoolState, line: Record)
     state.release(nodes, line.root);
 }
 
+/// Makes the first nodes of a memory free, so many as the size says. What lies behind them is not written.
+fn free_first(memory: &mut [Node], size: usize) -> PoolState
+    requires small { size ≤ 65535 }
+    requires within { size ≤ length memory.old }
+    ensures used { result.used ≡ 0 }
+    ensures free { HoldsIn (take size memory.new) result.free result.used [] }
+    ensures long { length memory.new ≡ length memory.old }
+    ensures behind { drop size memory.new ≡ drop size memory.old }
+{
+    PoolState::new(&mut memory[..size])
+}
+
 impl<'m, N: NameOrder> Register<'m, N> {
     /// A register over this memory, with all nodes and lines free and all shelves empty.
-    /// Its nodes are the first of the memory, 65,535 at most. What lies behind them is never written.
+    /// Its nodes are the first of the memory, 65,535 at most. What lies behind them is never written. The first line gets the
+    /// first serial; where that is 4,294,967,295, no line can be opened.
     pub fn new(memory: &'m mut [Node], first_serial: u32) -> Register<'m, N>
         ensures shown { ShownBy (names N.Key.words N.Key.key N.cmp N.NameOrder.named N.NameOrder.name) result (newly_made (min (length memory.old) 65535) first_serial) }
         ensures borrow { result.nodes.ghost_name ≡ memory.entry.ghost_name }
@@ -53,7 +66,7 @@ impl<'m, N: NameOrder> Register<'m, N> {
         ensures behind { drop result.size result.nodes.now ≡ drop result.size memory.old }
     {
         let size = memory.len().min(MOST_NODES);
-        let state = PoolState::new(&mut memory[..size]);
+        let state = free_first(memory, size);
         Register {
             nodes: memory,
             size,

@@ -1,8 +1,10 @@
 //! Questions change nothing.
 
-ghost use Rattle.std.specs.Prelude.{◌≡◌, ◌+◌, ◌≤◌, length, Some, None, nat_lt};
+ghost use Rattle.std.specs.Prelude.{◌≡◌, ◌+◌, ◌≤◌, length, sum_by, Some, None, nat_lt};
 ghost use Rattle.std.specs.Option.{option_map};
+ghost use Rattle.pool.specs.FreeList.{busy};
 ghost use Rattle.pool.specs.Held.{CarriesIn, SoundMemory};
+ghost use Rattle.pool.specs.Reached.{Accounted};
 ghost use Rattle.pool.specs.Sound.{memory_of};
 ghost use Rattle.pool.specs.Tree.{Tree};
 ghost use Rattle.tree.specs.Lookup.{first_after, first_of};
@@ -14,6 +16,7 @@ ghost use Rattle.register.specs.Found.{CardFound, CardReady, CardTold, LineReady
 ghost use Rattle.register.specs.Registers.{Answers, ShownBy, pool_of};
 ghost use Rattle.register.specs.Shown.{Shown};
 ghost use Rattle.register.specs.Shapes.{Filed, LineWith};
+ghost use Rattle.register.specs.Tables.{roots_in};
 
 use crate::handle::Line;
 use crate::refusal::Refusal;
@@ -36,7 +39,7 @@ pub struct Tally {
 }
 
 impl Tally {
-    /// Of these nodes, and so many lines.
+    /// Of these nodes, 65,535 at most, of which the state says how many are in use, and of so many lines.
     fn of(nodes: &[Node], state: PoolState, lines: u32) -> Tally
         requires small { length nodes.now ≤ 65535 }
         requires within { state.used ≤ length nodes.now }
@@ -216,9 +219,12 @@ impl<N: NameOrder> Register<'_, N> {
         Ok(first_after::<N>(&self.nodes[..self.size], sheet, N::from_name(name)))
     }
 
-    /// The nodes in use, the nodes free and the live lines.
+    /// The nodes in use, the nodes free and the live lines. The nodes in use are those that a live line reaches, by its stages or
+    /// by its working sheet, and no others.
     pub fn tally(&self) -> Tally
-        ensures { Answers (names N.Key.words N.Key.key N.cmp N.NameOrder.named N.NameOrder.name) self.now tallies (counted result) }
+        ensures told { Answers (names N.Key.words N.Key.key N.cmp N.NameOrder.named N.NameOrder.name) self.now tallies (counted result) }
+        ensures accounted { Accounted (pool_of self.now) (roots_in self.now.table.lines) }
+        ensures in_use { result.in_use ≡ sum_by busy (memory_of (pool_of self.now)) }
     {
         Tally::of(&self.nodes[..self.size], self.state, self.table.live())
     }

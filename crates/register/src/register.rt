@@ -20,8 +20,10 @@ pub struct Register<'m, N> {
     pub(crate) nodes: &'m mut [Node],
     /// How many of its first nodes are the register's.
     pub(crate) size: usize,
+    /// The first of its free nodes, and how many of its nodes are in use.
     pub(crate) state: PoolState,
     pub(crate) table: Table,
+    /// The serial that the next line gets; 4,294,967,295 where there is no next line.
     pub(crate) next: u32,
     pub(crate) order: PhantomData<N>,
     ghost small: { size ≤ 65535 },

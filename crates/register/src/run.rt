@@ -275,8 +275,8 @@ fn turns(calls: &[Call<'_>], answers: &[Answer]) -> usize
 }
 
 /// Carries out calls one after another on a register newly made over this memory, and writes their answers.
-/// As many calls are carried out as there is room for answers; their number is given. The register's nodes, the first 65,535 of the
-/// memory at most, are left as the last call left them. What lies behind them is not written.
+/// As many calls are carried out as there is room for answers; their number is given. The register ends with the run: the memory is
+/// its lender's again, and the nodes, the first 65,535 at most, are as the last call left them. What lies behind them is not written.
 pub fn run_calls<N: NameOrder>(
     memory: &mut [Node],
     first_serial: u32,

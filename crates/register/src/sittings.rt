@@ -1,8 +1,8 @@
 //! Beginning, committing and abandoning sittings.
 
 ghost use Rattle.std.specs.Prelude.{◌≡◌, ◌+◌, ◌^◌, ◌<◌, ◌≤◌, true, List, ◌∷◌, length, pos, is_err, nat_lt, IsOk, OnOk};
-ghost use Rattle.pool.specs.Held.{Carries, CarriesIn, Held, HoldsBy, OfParts, held};
-ghost use Rattle.pool.specs.Sound.{memory_of, used_of};
+ghost use Rattle.pool.specs.Held.{Carries, CarriesIn, Held, HoldsBy, OfParts, held, Holds};
+ghost use Rattle.pool.specs.Sound.{memory_of, used_of, lender_of};
 ghost use Rattle.pool.specs.Tree.{Tree};
 ghost use Rattle.tree.specs.Append.{Behind};
 ghost use Rattle.tree.specs.Insert.{compared, insert as inserted};
@@ -92,7 +92,19 @@ fn sit_down(
     line.seated(recorded, sheet)
 }
 
-/// Adds a sheet to the stages of a line. The owners of the stages and of the sheet become the owner of the result.
+/// Puts a sheet on a line's stages under a recorded instant. The owners of the stages and of the sheet become the owner of the
+/// result.
+fn put_stage(pool: &mut Pool<'_>, stages: u16, recorded: Instant, sheet: u16) -> u16
+    requires ready { Insertable pool.old stages sheet }
+    ensures owned { (t nested : Tree) (hs : List Held) → Holds pool.old (held stages t ∷ held sheet nested ∷ hs) → Holds pool.new (held result (inserted (compared instant_at earlier recorded) (instant_words recorded) (pos 0) nested t) ∷ hs) }
+    ensures appended { (t : Tree) → Carries pool.old stages t → Behind (compared instant_at earlier recorded) t → used_of pool.new ≤ used_of pool.old + height t + 1 }
+    ensures size { length (memory_of pool.new) ≡ length (memory_of pool.old) }
+    ensures lent { lender_of pool.new ≡ lender_of pool.old }
+{
+    insert(pool, stages, recorded, Root { link: sheet })
+}
+
+/// Adds a sheet to the stages of a line in these nodes: as to the stages in their pool.
 fn add_stage(
     nodes: &mut [Node],
     state: &mut PoolState,
@@ -106,7 +118,7 @@ fn add_stage(
     ensures size { length nodes.new ≡ length nodes.old }
 {
     let mut pool = Pool::over(nodes, *state);
-    let stages = insert(&mut pool, stages, recorded, Root { link: sheet });
+    let stages = put_stage(&mut pool, stages, recorded, sheet);
     *state = pool.state();
     stages
 }

@@ -1,4 +1,5 @@
-//! Questions to a tree of ascending keys, answered on the way down. Each takes the nodes of a pool and a root.
+//! Questions to a tree of ascending keys, answered on the way down. Each takes the nodes of a pool and a root: the number
+//! of a node, or 0 for the tree without one. Nothing is written, and no owner changes.
 
 ghost use Rattle.std.specs.Prelude.{◌≡◌, ◌↔◌, if◌then◌else◌, IfSome, IsNone, Some};
 ghost use Rattle.pool.specs.Held.{CarriesIn};

@@ -8,7 +8,7 @@ ghost use Rattle.pool.specs.Sound.{memory_of, used_of};
 
 use crate::node::Node;
 use crate::pool::Pool;
-use crate::pool::store::place;
+use crate::pool::store::read;
 use crate::state::PoolState;
 
 impl Pool<'_> {
@@ -38,5 +38,5 @@ pub fn node_in(nodes: &[Node], n: u16) -> Node
     requires { 0 < (node_at nodes.now n).count }
     ensures { result ≡ node_at nodes.now n }
 {
-    nodes[place(n)]
+    read(nodes, n)
 }

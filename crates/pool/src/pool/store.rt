@@ -11,11 +11,20 @@ use crate::node::Node;
 use crate::pool::Pool;
 
 /// Nodes are numbered from 1.
-pub(crate) fn place(n: u16) -> usize
+fn place(n: u16) -> usize
     requires { 0 < n }
     ensures { result ≡ n - 1 }
 {
     usize::from(n) - 1
+}
+
+/// Reads the node n, free or in use.
+pub(crate) fn read(nodes: &[Node], n: u16) -> Node
+    requires numbered { 0 < n }
+    requires within { n ≤ length nodes.now }
+    ensures { result ≡ node_at nodes.now n }
+{
+    nodes[place(n)]
 }
 
 impl Pool<'_> {
@@ -25,7 +34,7 @@ impl Pool<'_> {
         requires within { n ≤ length (memory_of self.now) }
         ensures { result ≡ node_at (memory_of self.now) n }
     {
-        self.nodes[place(n)]
+        read(self.nodes, n)
     }
 
     /// Writes the node n.

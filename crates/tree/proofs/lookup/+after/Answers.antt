@@ -1,4 +1,4 @@
-use Rattle.std.proofs.Common.{None, Option, Less, Greater, sym, refl, ◌∙◌, subst}
+use Rattle.std.proofs.Common.{false, None, Option, Less, Greater, sym, refl, ◌∙◌, subst}
 use Rattle.tree.specs.Answer.{GivenItem}
 use Rattle.tree.specs.Lookup.{after}
 use Rattle.tree.specs.Shape.{Item}
@@ -10,7 +10,7 @@ use Rattle.tree.proofs.lookup.+after.Goals as goal
 pub returns-in_err-node : goal.returns-in_err-node
 returns-in_err-node g t c =
     let P : Option (Item g.row.K.Denot) → Type 0 = λ o. GivenItem c.args.nodes.now g.V.Value.value o c.from_residual.result in
-    let a = after_none c.args.nodes.now c.args.root (c.in_err-node.ensures.none.0 refl) g.K.Key.key g.K.Ord.cmp P (subst (GivenItem {K = g.row.K.Denot} c.args.nodes.now g.V.Value.value None) (sym c.from_residual.ensures) tt) c.args.key in
+    let a = after_none c.args.nodes.now c.args.root (c.in_err-node.ensures.none.0 (refl {a = false})) g.K.Key.key g.K.Ord.cmp P (subst (GivenItem {K = g.row.K.Denot} c.args.nodes.now g.V.Value.value None) (sym c.from_residual.ensures) tt) c.args.key in
     record { answered = a; listed = after-listed (kind_of g.met.K.Key g.met.K.Ord.total) _ _ P c.args.key a }
 
 pub after-requires : goal.after-requires

@@ -1,4 +1,4 @@
-use Rattle.std.proofs.Common.{None, Option, sym, subst, refl}
+use Rattle.std.proofs.Common.{false, None, Option, sym, subst, refl}
 use Rattle.tree.specs.Answer.{GivenItem}
 use Rattle.tree.specs.Shape.{Item}
 use Rattle.tree.proofs.Answering.{at-most-given, at_most-by, at_most-listed, at_most-none}
@@ -9,7 +9,7 @@ use Rattle.tree.proofs.lookup.+at_most.Goals as goal
 pub returns-in_err-node : goal.returns-in_err-node
 returns-in_err-node g t c =
     let P : Option (Item g.row.K.Denot) → Type 0 = λ o. GivenItem c.args.nodes.now g.V.Value.value o c.from_residual.result in
-    let a = at_most-none c.args.nodes.now c.args.root (c.in_err-node.ensures.none.0 refl) g.K.Key.key g.K.Ord.cmp P (subst (GivenItem {K = g.row.K.Denot} c.args.nodes.now g.V.Value.value None) (sym c.from_residual.ensures) tt) c.args.key in
+    let a = at_most-none c.args.nodes.now c.args.root (c.in_err-node.ensures.none.0 (refl {a = false})) g.K.Key.key g.K.Ord.cmp P (subst (GivenItem {K = g.row.K.Denot} c.args.nodes.now g.V.Value.value None) (sym c.from_residual.ensures) tt) c.args.key in
     record { answered = a; listed = at_most-listed (kind_of g.met.K.Key g.met.K.Ord.total) _ _ P c.args.key a }
 
 pub at_most-found-requires : goal.at_most-found-requires

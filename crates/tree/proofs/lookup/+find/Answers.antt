@@ -1,4 +1,4 @@
-use Rattle.std.proofs.Common.{Some, None, Option, Equal, sym, subst, refl}
+use Rattle.std.proofs.Common.{false, Some, None, Option, Equal, sym, subst, refl}
 use Rattle.tree.specs.Answer.{GivenValue}
 use Rattle.tree.specs.Shape.{Item}
 use Rattle.tree.proofs.Answering.{compared, find-by, find-listed, find_none, find-side, value-given}
@@ -9,7 +9,7 @@ use Rattle.tree.proofs.lookup.+find.Goals as goal
 pub returns-in_err-node : goal.returns-in_err-node
 returns-in_err-node g t c =
     let P : Option (Item g.row.K.Denot) → Type 0 = λ o. GivenValue c.args.nodes.now g.V.Value.value o c.from_residual.result in
-    let a = find_none c.args.nodes.now c.args.root (c.in_err-node.ensures.none.0 refl) g.K.Key.key g.K.Ord.cmp P (subst (GivenValue {K = g.row.K.Denot} c.args.nodes.now g.V.Value.value None) (sym c.from_residual.ensures) tt) c.args.key in
+    let a = find_none c.args.nodes.now c.args.root (c.in_err-node.ensures.none.0 (refl {a = false})) g.K.Key.key g.K.Ord.cmp P (subst (GivenValue {K = g.row.K.Denot} c.args.nodes.now g.V.Value.value None) (sym c.from_residual.ensures) tt) c.args.key in
     record { answered = a; listed = find-listed (kind_of g.met.K.Key g.met.K.Ord.total) _ _ P c.args.key a }
 
 pub find-requires : goal.find-requires

@@ -1,4 +1,4 @@
-use Rattle.std.proofs.Common.{None, Option, sym, subst, refl}
+use Rattle.std.proofs.Common.{false, None, Option, sym, subst, refl}
 use Rattle.tree.specs.Answer.{GivenItem}
 use Rattle.tree.specs.Ends.{at_end}
 use Rattle.tree.specs.Lookup.{first, last}
@@ -11,7 +11,7 @@ use Rattle.tree.proofs.lookup.+outermost.Goals as goal
 pub returns-in_err-node : goal.returns-in_err-node
 returns-in_err-node g t c =
     let P : Option (Item g.row.K.Denot) → Type 0 = λ o. GivenItem c.args.nodes.now g.V.Value.value o c.from_residual.result in
-    let a = outermost-none c.args.nodes.now c.args.root (c.in_err-node.ensures.none.0 refl) g.K.Key.key g.K.Ord.cmp P (subst (GivenItem {K = g.row.K.Denot} c.args.nodes.now g.V.Value.value None) (sym c.from_residual.ensures) tt) c.args.end in
+    let a = outermost-none c.args.nodes.now c.args.root (c.in_err-node.ensures.none.0 (refl {a = false})) g.K.Key.key g.K.Ord.cmp P (subst (GivenItem {K = g.row.K.Denot} c.args.nodes.now g.V.Value.value None) (sym c.from_residual.ensures) tt) c.args.end in
     record { answered = a; listed = outermost-listed (kind_of g.met.K.Key g.met.K.Ord.total) _ _ P c.args.end a }
 
 pub outermost-requires : goal.outermost-requires

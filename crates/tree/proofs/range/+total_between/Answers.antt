@@ -1,4 +1,4 @@
-use Rattle.std.proofs.Common.{refl}
+use Rattle.std.proofs.Common.{false, refl}
 use Rattle.tree.proofs.Bound.{kind_of}
 use Rattle.tree.proofs.Descent.{numbered}
 use Rattle.tree.proofs.Ranging.{inner-fits, none-totals, outer-fits, parts, to_back, to_front, walk-listed, walk_none, walk-totals}
@@ -6,7 +6,7 @@ use Rattle.tree.proofs.range.+total_between.Goals as goal
 
 pub returns-in_default : goal.returns-in_default
 returns-in_default g t c =
-    let a = walk_none (kind_of g.met.K.Key g.met.K.Ord.total) c.args.low c.args.high _ _ (c.in_default.ensures.none.0 refl) _ (none-totals _ c.default.ensures.0 c.default.ensures.1) in
+    let a = walk_none (kind_of g.met.K.Key g.met.K.Ord.total) c.args.low c.args.high _ _ (c.in_default.ensures.none.0 (refl {a = false})) _ (none-totals _ c.default.ensures.0 c.default.ensures.1) in
     record { answered = a; listed = walk-listed (kind_of g.met.K.Key g.met.K.Ord.total) _ _ _ _ _ a }
 
 pub total_between-below-requires : goal.total_between-below-requires

@@ -1,4 +1,4 @@
-use Rattle.std.proofs.Common.{◌≤◌, ◌≡◌, refl, arith}
+use Rattle.std.proofs.Common.{refl, arith}
 use Rattle.pool.proofs.Freeing.{free_all}
 use Rattle.pool.proofs.state.PoolState.new.Goals as goal
 
