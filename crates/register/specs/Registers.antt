@@ -1,5 +1,5 @@
 -- What a call on a register tells: whatever the register shows before it, the call is a step from there to what it shows after it.
-use Rattle.std.specs.Prelude.{◌≡◌, drop, true, Ok, Err, Result, ◌≢◌, ℕ, Some, Option}
+use Rattle.std.specs.Prelude.{◌≡◌, ◌≢◌, ℕ, drop, true, Some, Ok, Err, Option, Result}
 use Rattle.pool.specs.declared.pool.Pool.{Pool}
 use Rattle.register.specs.Answering.{leaves_nodes}
 use Rattle.register.specs.Calls.{Answer, Call, Handle, Line, Sitting, line_handle, sitting_handle}

@@ -12,7 +12,7 @@ ghost use Rattle.register.specs.Declined.{lacking, occupied};
 ghost use Rattle.register.specs.Entries.{Readable, entry_refusal};
 ghost use Rattle.register.specs.Refusals.{first_of};
 ghost use Rattle.register.specs.Shapes.{Filed, SheetWith};
-ghost use Rattle.register.specs.Registers.{SameLoan, Tells, pool_of, IsAtRest, IsInSitting, Keeps};
+ghost use Rattle.register.specs.Registers.{IsAtRest, IsInSitting, Keeps, SameLoan, Tells, pool_of};
 ghost use Rattle.register.specs.declared.entries.Change.TheVariants.{Record as records, Correct as corrects, Withdraw as withdraws};
 ghost use Rattle.register.specs.declared.refusal.Refusal.TheVariants.{NoReading, ReadingThere};
 

@@ -1,11 +1,11 @@
 //! Opening, branching, stowing, fetching and retiring lines.
 
-ghost use Rattle.std.specs.Prelude.{◌≡◌, ◌+◌, ◌^◌, ◌<◌, ◌≤◌, drop, min, true, List, ◌∷◌, length, is_err, ◌≢◌, IfOk, IsOk, take, []};
-ghost use Rattle.pool.specs.Held.{CarriesIn, Held, HoldsBy, held, HoldsIn};
+ghost use Rattle.std.specs.Prelude.{◌≡◌, ◌≢◌, ◌+◌, ◌^◌, ◌<◌, ◌≤◌, drop, min, take, true, List, [], ◌∷◌, length, IfOk, IsOk, is_err};
+ghost use Rattle.pool.specs.Held.{CarriesIn, Held, HoldsBy, HoldsIn, held};
 ghost use Rattle.pool.specs.Tree.{Tree};
 ghost use Rattle.register.specs.Calls.{branch_answer, branches, done_answer, fetches, line_answer, line_handle, opens, retires, stows};
 ghost use Rattle.register.specs.Contents.{names};
-ghost use Rattle.register.specs.Registers.{GivesBack, HandsBack, SameLoan, ShownBy, Tells, IsAtRest, IsInSitting, Keeps, KeepsOthers};
+ghost use Rattle.register.specs.Registers.{GivesBack, HandsBack, IsAtRest, IsInSitting, Keeps, KeepsOthers, SameLoan, ShownBy, Tells};
 ghost use Rattle.register.specs.Shown.{newly_made};
 ghost use Rattle.register.specs.Tables.{resting_record, vacancy_in};
 

@@ -1,7 +1,7 @@
 //! Beginning, committing and abandoning sittings.
 
-ghost use Rattle.std.specs.Prelude.{◌≡◌, ◌+◌, ◌^◌, ◌<◌, ◌≤◌, true, List, ◌∷◌, length, pos, is_err, nat_lt, IsOk, OnOk};
-ghost use Rattle.pool.specs.Held.{Carries, CarriesIn, Held, HoldsBy, OfParts, held, Holds};
+ghost use Rattle.std.specs.Prelude.{◌≡◌, ◌+◌, ◌^◌, ◌<◌, ◌≤◌, true, List, ◌∷◌, length, pos, IsOk, OnOk, is_err, nat_lt};
+ghost use Rattle.pool.specs.Held.{Carries, CarriesIn, Held, Holds, HoldsBy, OfParts, held};
 ghost use Rattle.pool.specs.Sound.{memory_of, used_of, lender_of};
 ghost use Rattle.pool.specs.Tree.{Tree};
 ghost use Rattle.tree.specs.Append.{Behind};
@@ -12,7 +12,7 @@ ghost use Rattle.tree.specs.Shape.{height};
 ghost use Rattle.register.specs.Calls.{abandons, begins, commits, done_answer, line_handle, sitting_handle};
 ghost use Rattle.register.specs.Contents.{earlier, instant_at, names};
 ghost use Rattle.register.specs.Found.{SheetBefore, not_after_stage, sheet_in};
-ghost use Rattle.register.specs.Registers.{HandsBack, SameLine, SameLoan, SameSitting, Tells, pool_of, IsAtRest, IsInSitting, Keeps, KeepsOthers};
+ghost use Rattle.register.specs.Registers.{HandsBack, IsAtRest, IsInSitting, Keeps, KeepsOthers, SameLine, SameLoan, SameSitting, Tells, pool_of};
 ghost use Rattle.register.specs.Tables.{resting_record};
 ghost use Rattle.register.specs.Trees.{instant_words};
 ghost use Rattle.register.specs.declared.table.State.TheVariants.{Sitting as seated_at};
