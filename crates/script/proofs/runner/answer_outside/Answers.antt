@@ -18,7 +18,7 @@ returns-in-Err c =
 pub returns-in-Tally : goal.returns-in-Tally
 returns-in-Tally c =
     answered-as c.args.register.now c.args.register.now None None (requested c.args.command) tallies (Ok (Counted c.tally.result)) (Ok (Counted c.tally.result))
-    (ap requested c.in-Tally.is) refl (tallied c.args.register.now c.tally.result c.tally.ensures)
+    (ap requested c.in-Tally.is) refl (tallied c.args.register.now c.tally.result c.tally.ensures.told)
 
 pub returns-in_default : goal.returns-in_default
 returns-in_default c =
