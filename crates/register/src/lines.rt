@@ -43,6 +43,13 @@ fn let_go(nodes: &mut [Node], state: &mut PoolState, line: Record)
     state.release(nodes, line.root);
 }
 
+/// How many of these nodes a register has that is made over them.
+fn size_over(memory: &[Node]) -> usize
+    ensures { result ≡ min (length memory.now) 65535 }
+{
+    memory.len().min(MOST_NODES)
+}
+
 /// Makes the first nodes of a memory free, so many as the size says. What lies behind them is not written.
 fn free_first(memory: &mut [Node], size: usize) -> PoolState
     requires small { size ≤ 65535 }
@@ -65,7 +72,7 @@ impl<'m, N: NameOrder> Register<'m, N> {
         ensures size { result.size ≡ min (length memory.old) 65535 }
         ensures behind { drop result.size result.nodes.now ≡ drop result.size memory.old }
     {
-        let size = memory.len().min(MOST_NODES);
+        let size = size_over(memory);
         let state = free_first(memory, size);
         Register {
             nodes: memory,
