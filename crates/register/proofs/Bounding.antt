@@ -12,7 +12,8 @@ use Rattle.register.specs.Answering.{is_answer}
 use Rattle.register.specs.Calls.{Answer, Call, Question, abandons, as_of, asks, begins, branches, commits, enters, fetches, next_name, opens, retires, stows, tallies, total}
 use Rattle.register.specs.Contents.{Names, Sheet}
 use Rattle.register.specs.Declined.{declined}
-use Rattle.register.specs.Law.{Follows, Refuses, Turn, growth, is_done, shown_after}
+use Rattle.register.specs.Law.{Refuses}
+use Rattle.register.specs.Turns.{Follows, Turn, growth, is_done, shown_after}
 use Rattle.register.specs.Places.{owners_of}
 use Rattle.register.specs.Shown.{Shown}
 use Rattle.register.specs.Steps.{Accepted, Step, Unless, answer_to}

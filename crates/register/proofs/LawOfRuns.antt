@@ -23,7 +23,8 @@ use Rattle.register.specs.Contents.{Names}
 use Rattle.register.specs.Declined.{crossed, declined, misnamed}
 use Rattle.register.specs.Histories.{Histories, after_call, nothing_told, told_from}
 use Rattle.register.specs.History.{Entry, known_at}
-use Rattle.register.specs.Law.{EveryRun, Follows, Law, LeavesNodes, Refuses, Turn, call_with_answer, history_after, shown_after, told_after}
+use Rattle.register.specs.Law.{EveryRun, Law, Refuses}
+use Rattle.register.specs.Turns.{Follows, LeavesNodes, Turn, call_with_answer, history_after, shown_after, told_after}
 use Rattle.register.specs.Places.{is_resting}
 use Rattle.register.specs.Shown.{Shown, at, newly_made}
 use Rattle.register.specs.Steps.{Step, answer_to}

@@ -10,7 +10,7 @@ use Rattle.register.proofs.Splitting.{Seen, by-step}
 use Rattle.register.specs.Calls.{Answer, Call, Handle, abandons, asks, begins, branches, commits, enters, fetches, opens, retires, stows, tallies}
 use Rattle.register.specs.Contents.{Names}
 use Rattle.register.specs.Declined.{declined}
-use Rattle.register.specs.Law.{Follows, Turn, call_with_answer, is_done, is_handed, shown_after}
+use Rattle.register.specs.Turns.{Follows, Turn, call_with_answer, is_done, is_handed, shown_after}
 use Rattle.register.specs.Places.{Doing, Place, free, is_resting, live, live_in, none, resting, sitting, stowed}
 use Rattle.register.specs.Runs.{Moment, Runs}
 use Rattle.register.specs.Shelves.{Bare, is_laid, laid_in}

@@ -14,7 +14,8 @@ use Rattle.register.proofs.Timed.{names_of}
 use Rattle.register.specs.Answering.{leaves_nodes}
 use Rattle.register.specs.Calls.{Answer, Call}
 use Rattle.register.specs.Contents.{Names}
-use Rattle.register.specs.Law.{Follows, LeavesNodes, Ran, Turn, pool_after, shown_after}
+use Rattle.register.specs.Law.{Ran}
+use Rattle.register.specs.Turns.{Follows, LeavesNodes, Turn, pool_after, shown_after}
 use Rattle.register.specs.Plain.{CodeAnswer, answer_of, call_of}
 use Rattle.register.specs.Registers.{SameLoan, ShownBy, Tells, pool_of}
 use Rattle.register.specs.Shown.{Shown, Shows, newly_made}

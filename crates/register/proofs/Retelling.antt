@@ -10,7 +10,7 @@ use Rattle.register.proofs.Splitting.{by-step}
 use Rattle.register.specs.Calls.{Answer, Call, Handle, Question, abandons, asks, begins, branches, commits, counted, done, enters, fetches, found, handed, named, opens, refused, retires, stows, tallies, totalled}
 use Rattle.register.specs.Contents.{Names}
 use Rattle.register.specs.Histories.{Histories, Told, after_call, closed, nothing_told, told_from, with_entry}
-use Rattle.register.specs.Law.{Follows, Turn, call_with_answer, shown_after}
+use Rattle.register.specs.Turns.{Follows, Turn, call_with_answer, shown_after}
 use Rattle.register.specs.Places.{Doing, Place, free, none, resting, sitting, stowed}
 use Rattle.register.specs.Shown.{Shown, newly_made, next_handle}
 use Rattle.register.specs.Steps.{Step, on_shelf}

@@ -8,7 +8,7 @@ use Rattle.register.proofs.Doing.{does}
 use Rattle.register.proofs.Splitting.{Seen, by-step, follows-front, shown-last}
 use Rattle.register.specs.Calls.{Answer, Call, Handle, abandons, asks, begins, branches, commits, enters, fetches, opens, retires, stows, tallies}
 use Rattle.register.specs.Contents.{Names}
-use Rattle.register.specs.Law.{Follows, Turn, ended, is_done, is_end, is_handed, is_start, shown_after, started}
+use Rattle.register.specs.Turns.{Follows, Turn, ended, is_done, is_end, is_handed, is_start, shown_after, started}
 use Rattle.register.specs.Places.{Doing, Place, free, is_free, live, live_in, none, owners_of, resting}
 use Rattle.register.specs.Shown.{Shown, newly_made, next_handle}
 use Rattle.register.specs.Steps.{Step}

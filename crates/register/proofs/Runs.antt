@@ -7,7 +7,7 @@ use Rattle.register.specs.Answering.{leaves_nodes}
 use Rattle.register.specs.Calls.{Answer, Call, abandons, as_of, asks, begins, branches, commits, counted, done, enters, fetches, found, handed, named, next_name, opens, refused, retires, stows, tallies, total, totalled}
 use Rattle.register.specs.Contents.{Names}
 use Rattle.register.specs.Declined.{declined}
-use Rattle.register.specs.Law.{Follows, LeavesNodes, Turn, call_with_answer, pool_after, shown_after}
+use Rattle.register.specs.Turns.{Follows, LeavesNodes, Turn, call_with_answer, pool_after, shown_after}
 use Rattle.register.specs.Runs.{Moment, Runs}
 use Rattle.register.specs.Shown.{Shown, Shows}
 use Rattle.register.specs.Steps.{Accepted, Step, Unless}

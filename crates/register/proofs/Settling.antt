@@ -16,7 +16,7 @@ use Rattle.register.specs.Calls.{Answer, Call, Handle, abandons, asks, begins, b
 use Rattle.register.specs.Contents.{Names}
 use Rattle.register.specs.Histories.{Histories, Told, after_call, closed, told_from, with_told}
 use Rattle.register.specs.History.{Entry, History, Stage, known_at}
-use Rattle.register.specs.Law.{Follows, Turn, call_with_answer}
+use Rattle.register.specs.Turns.{Follows, Turn, call_with_answer}
 use Rattle.register.specs.Places.{sitting}
 use Rattle.register.specs.Shown.{Shown, next_handle}
 use Rattle.register.specs.Steps.{Step}

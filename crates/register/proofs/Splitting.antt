@@ -5,7 +5,7 @@ use Rattle.register.specs.Answering.{leaves_nodes}
 use Rattle.register.specs.Calls.{Answer, Call, refused}
 use Rattle.register.specs.Contents.{Names}
 use Rattle.register.specs.Declined.{declined}
-use Rattle.register.specs.Law.{Follows, LeavesNodes, Turn, pool_after, shown_after}
+use Rattle.register.specs.Turns.{Follows, LeavesNodes, Turn, pool_after, shown_after}
 use Rattle.register.specs.Places.{record_of}
 use Rattle.register.specs.Shown.{Shown, Shows}
 use Rattle.register.specs.Steps.{Accepted, Step, Unless}

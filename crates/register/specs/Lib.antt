@@ -22,6 +22,7 @@ pub mod Histories
 pub mod Answering
 pub mod Due
 pub mod Law
+pub mod Turns
 pub mod Runs
 pub mod Shelves
 pub mod WorkedScript

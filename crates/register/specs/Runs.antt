@@ -4,7 +4,7 @@ use Rattle.std.specs.Prelude.{◌≡◌, List, map}
 use Rattle.pool.specs.declared.pool.Pool.{Pool}
 use Rattle.register.specs.Calls.{Answer, Call}
 use Rattle.register.specs.Contents.{Names}
-use Rattle.register.specs.Law.{Follows, LeavesNodes, Turn, call_with_answer, pool_after, shown_after}
+use Rattle.register.specs.Turns.{Follows, LeavesNodes, Turn, call_with_answer, pool_after, shown_after}
 use Rattle.register.specs.Shown.{Shown}
 
 -- a register's pool, and what it shows

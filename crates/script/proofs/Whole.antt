@@ -11,7 +11,7 @@ use Rattle.register.proofs.LawOfRuns.{law-of-runs}
 use Rattle.register.proofs.Splitting.{follows-append, last-shown, leaves-append, plainly, pool-append, shown-append}
 use Rattle.register.specs.Calls as call
 use Rattle.register.specs.Calls.{Call}
-use Rattle.register.specs.Law.{Follows, LeavesNodes, Turn, pool_after, shown_after}
+use Rattle.register.specs.Turns.{Follows, LeavesNodes, Turn, pool_after, shown_after}
 use Rattle.register.specs.Runs.{Moment, Runs}
 use Rattle.register.specs.Registers.{ShownBy, pool_of}
 use Rattle.register.specs.Shown.{Shown, newly_made}

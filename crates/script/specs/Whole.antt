@@ -4,7 +4,8 @@ use Rattle.std.specs.Prelude.{◌≡◌, ℕ, zero, suc, Bool, List, [], ◌++�
 use Rattle.pool.specs.FreeList.{AllFree}
 use Rattle.pool.specs.declared.node.Node.{Node}
 use Rattle.pool.specs.declared.pool.Pool.{Pool}
-use Rattle.register.specs.Law.{Follows, Law, LeavesNodes, LeftIn, Turn}
+use Rattle.register.specs.Law.{Law, LeftIn}
+use Rattle.register.specs.Turns.{Follows, LeavesNodes, Turn}
 use Rattle.register.specs.Places.{record_of}
 use Rattle.register.specs.Runs.{Moment}
 use Rattle.register.specs.Shown.{Shows, newly_made}
