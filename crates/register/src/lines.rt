@@ -20,6 +20,17 @@ use std::marker::PhantomData;
 /// The last serial that a line can have.
 const LAST_SERIAL: u32 = SPENT - 1;
 
+/// The serial that the next line gets. The one after it is next then.
+fn next_serial(next: &mut u32) -> u32
+    requires { next.old ≤ 4294967294 }
+    ensures serial { result ≡ next.old }
+    ensures next { next.new ≡ next.old + 1 }
+{
+    let serial = *next;
+    *next = serial + 1;
+    serial
+}
+
 /// The record of a new line with the stages of another: one owner more of their root.
 fn branch_off(nodes: &mut [Node], state: &mut PoolState, line: Record, serial: u32) -> Record
     requires held { (hs : List Held) × HoldsBy nodes.old state.old hs × (length hs < 2 ^ 31) }
@@ -105,8 +116,7 @@ impl<'m, N: NameOrder> Register<'m, N> {
         ensures sittings { Keeps IsInSitting self.old self.new }
     {
         let place = self.vacancy()?;
-        let serial = self.next;
-        self.next = serial + 1;
+        let serial = next_serial(&mut self.next);
         self.table.put(place, Record::resting(serial, 0));
         Ok(Line::from_parts(place, serial))
     }
@@ -132,8 +142,7 @@ impl<'m, N: NameOrder> Register<'m, N> {
             Ok(place) => place,
             Err(why) => return Err(Refused { handle: line, why }),
         };
-        let serial = self.next;
-        self.next = serial + 1;
+        let serial = next_serial(&mut self.next);
         let new = branch_off(
             &mut self.nodes[..self.size],
             &mut self.state,

@@ -53,7 +53,7 @@ invariant_of-self-3 g c =
     let (xs, k) = the_places (pool_of self) self.table.lines self.kept in
     rewritten self c.branch_off-new.new.nodes c.branch_off-new.new.state e.size c.put.new.self.lines _
     (kept-branched (pool_of self) self.table.lines c.args.line.place c.args.line.serial (Some c.in-Ok.record) c.in-Ok.ensures.0 self.next c.in-Ok.ensures.1
-    c.in-Ok-vacancy.place c.in-Ok-vacancy.ensures p' _ (put-at self.table.lines _ _ _ _ _ c.put.ensures refl e.made)
+    c.in-Ok-vacancy.place c.in-Ok-vacancy.ensures p' _ (put-at self.table.lines _ _ _ _ _ c.put.ensures refl (made_at _ _ _ _ c.next_serial-serial.ensures.serial e.made))
     (λ t hs h carries. by-parts (pool_of self) p' _ _ (λ held. e.owned t hs held carries) h) xs k)
 
 pub returns-clause-told : goal.returns-clause-told
@@ -62,11 +62,13 @@ returns-clause-told g c =
     let e = c.branch_off-new.ensures in
     let p' = left_in self c.branch_off-new.new.nodes c.branch_off-new.new.state e.size in
     record {
-      step = λ s shows. shown-joined self c.branch_off-new.new.nodes c.branch_off-new.new.state e.size _ _ _
+      step = λ s shows.
+          let (s', shows', step) = shown-joined self c.branch_off-new.new.nodes c.branch_off-new.new.state e.size _ _ _
           (branched (pool_of self) self.table.lines c.args.line.place c.args.line.serial (Some c.in-Ok.record) c.in-Ok.ensures.0 self.next c.in-Ok.ensures.1
-          c.in-Ok-vacancy.place c.in-Ok-vacancy.ensures p' _ (put-at self.table.lines _ _ _ _ _ c.put.ensures refl e.made)
+          c.in-Ok-vacancy.place c.in-Ok-vacancy.ensures p' _ (put-at self.table.lines _ _ _ _ _ c.put.ensures refl (made_at _ _ _ _ c.next_serial-serial.ensures.serial e.made))
           (λ t hs h carries. by-parts (pool_of self) p' _ _ (λ held. e.owned t hs held carries) h) _ _
-          (λ i. handed (record { place = c.from_parts.ensures.place i; serial = c.from_parts.ensures.serial i })) e.size e.used s shows);
+          (λ i. handed (record { place = c.from_parts.ensures.place i; serial = (c.from_parts.ensures.serial ∙ c.next_serial-serial.ensures.serial) i })) e.size e.used s shows) in
+          (s', rw c.next_serial-serial.ensures.next shows', step);
       unchanged = never;
     }
 

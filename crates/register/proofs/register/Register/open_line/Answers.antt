@@ -1,4 +1,4 @@
-use Rattle.std.proofs.Common.{refl, ap, sym, Some}
+use Rattle.std.proofs.Common.{Some, sym, refl, ap, ◌∙◌}
 use Rattle.register.specs.Calls.{handed, line_answer, opens, line_handle}
 use Rattle.register.specs.Contents.{names}
 use Rattle.register.specs.Registers.{Tells, pool_of}
@@ -20,14 +20,17 @@ invariant_of-self g c =
     let self = c.args.self.now in
     let (xs, k) = the_places (pool_of self) self.table.lines self.kept in
     unwritten self c.put.new.self.lines _
-    (kept-opened (pool_of self) self.table.lines self.next c.in_ok-place.place c.in_ok-place.ensures _ (put-at self.table.lines _ _ _ _ _ c.put.ensures refl c.resting.ensures) xs k)
+    (kept-opened (pool_of self) self.table.lines self.next c.in_ok-place.place c.in_ok-place.ensures _ (put-at self.table.lines _ _ _ _ _ c.put.ensures refl (made_at _ _ _ 0 c.next_serial-serial.ensures.serial c.resting.ensures)) xs k)
 
 pub returns-clause-told : goal.returns-clause-told
 returns-clause-told g c =
     let self = c.args.self.now in
+    let serial = c.next_serial-serial.ensures.serial in
     record {
-      step = opened (pool_of self) self.table.lines self.next c.in_ok-place.place c.in_ok-place.ensures _ (put-at self.table.lines _ _ _ _ _ c.put.ensures refl c.resting.ensures) _ _
-          (λ i. handed (record { place = c.from_parts.ensures.place i; serial = c.from_parts.ensures.serial i }));
+      step = λ s shows.
+          let (s', shows', step) = opened (pool_of self) self.table.lines self.next c.in_ok-place.place c.in_ok-place.ensures _ (put-at self.table.lines _ _ _ _ _ c.put.ensures refl (made_at _ _ _ 0 serial c.resting.ensures)) _ _
+          (λ i. handed (record { place = c.from_parts.ensures.place i; serial = (c.from_parts.ensures.serial ∙ serial) i })) s shows in
+          (s', rw c.next_serial-serial.ensures.next shows', step);
       unchanged = never;
     }
 
