@@ -274,6 +274,28 @@ fn turns(calls: &[Call<'_>], answers: &[Answer]) -> usize
     calls.len().min(answers.len())
 }
 
+/// Carries out the first calls, so many as `most` says, on a register newly made over this memory, and writes their answers.
+fn carry_out<N: NameOrder>(
+    memory: &mut [Node],
+    first_serial: u32,
+    calls: &[Call<'_>],
+    answers: &mut [Answer],
+    most: usize,
+)
+    requires { most ≡ min (length calls.now) (length answers.old) }
+    ensures ran { Ran (names N.Key.words N.Key.key N.cmp N.NameOrder.named N.NameOrder.name) (newly_made (min (length memory.old) 65535) first_serial) (map call_of (take most calls.now)) (map answer_of (take most answers.new)) (take 65535 memory.new) }
+    ensures rest { drop most answers.new ≡ drop most answers.old }
+    ensures beyond { drop 65535 memory.new ≡ drop 65535 memory.old }
+{
+    let mut register = Register::<N>::new(memory, first_serial);
+    for turn in 0..most {
+        answers[turn] = match calls[turn] {
+            Call::Do(action) => register.perform(action),
+            Call::Ask(question) => register.ask(question),
+        };
+    }
+}
+
 /// Carries out calls one after another on a register newly made over this memory, and writes their answers.
 /// As many calls are carried out as there is room for answers; their number is given. The register ends with the run: the memory is
 /// its lender's again, and the nodes, the first 65,535 at most, are as the last call left them. What lies behind them is not written.
@@ -288,13 +310,7 @@ pub fn run_calls<N: NameOrder>(
     ensures rest { drop result answers.new ≡ drop result answers.old }
     ensures beyond { drop 65535 memory.new ≡ drop 65535 memory.old }
 {
-    let mut register = Register::<N>::new(memory, first_serial);
     let most = turns(calls, answers);
-    for turn in 0..most {
-        answers[turn] = match calls[turn] {
-            Call::Do(action) => register.perform(action),
-            Call::Ask(question) => register.ask(question),
-        };
-    }
+    carry_out::<N>(memory, first_serial, calls, answers, most);
     most
 }

@@ -235,6 +235,26 @@ fn run_whole(
     ])
 }
 
+/// Runs a script that is short enough in a register made over `nodes`, and writes its report into `out`.
+fn run_short(
+    script: &[u8],
+    nodes: &mut [Node],
+    first_serial: u32,
+    out: &mut [u8],
+) -> Result<usize, Stopped>
+    requires { length script.now ≤ 32768 }
+    ensures within { MatchResult result (λ n. n ≤ length out.old) (λ stopped. stopped.length ≤ length out.old) }
+    ensures beyond { drop 65535 nodes.new ≡ drop 65535 nodes.old }
+    ensures ran { RanScript (min (length nodes.old) 65535) first_serial script.now result out.old out.new (take 65535 nodes.new) }
+{
+    let mut register = Register::new(nodes, first_serial);
+    let mut report = Report::new(out);
+    let whole = run_whole(&mut register, &mut report, script);
+    let length = report.len();
+    let why = Refusal::ReportFull;
+    whole.map(|()| length).map_err(|_| Stopped { length, why })
+}
+
 /// Runs a script in a register made over `nodes`, and writes its report into `out`. Gives the report's length.
 /// The register's nodes are the first of `nodes`, 65,535 at most; all of them are free afterwards. What lies behind them is not
 /// written. A script of more than 32,768 bytes writes nothing.
@@ -255,10 +275,5 @@ pub fn run(
             why: Refusal::ScriptTooLong,
         });
     }
-    let mut register = Register::new(nodes, first_serial);
-    let mut report = Report::new(out);
-    let whole = run_whole(&mut register, &mut report, script);
-    let length = report.len();
-    let why = Refusal::ReportFull;
-    whole.map(|()| length).map_err(|_| Stopped { length, why })
+    run_short(script, nodes, first_serial, out)
 }

@@ -11,7 +11,7 @@ use Rattle.script.specs.Runs.{beginning}
 use Rattle.script.specs.Scripts.{outcome}
 use Rattle.script.specs.Standings.{moment}
 use Rattle.script.specs.Whole.{RanScript}
-use Rattle.script.proofs.runner.run.Goals as goal
+use Rattle.script.proofs.runner.run_short.Goals as goal
 
 pub run_whole-whole-requires-clause-ready : goal.run_whole-whole-requires-clause-ready
 run_whole-whole-requires-clause-ready c =
@@ -29,7 +29,7 @@ returns-clause-beyond c =
     (rest-whole 65535 last.size c.args.nodes.now last.nodes.now (loan.size ∙ n.size) last.within (loan-behind first last loan c.args.nodes.now n.behind))
 
 pub returns-clause-ran : goal.returns-clause-ran
-returns-clause-ran c = λ short.
+returns-clause-ran c =
     let nodes = min (length c.args.nodes.now) 65535 in
     let first = c.new-register.result in
     let n = c.new-register.ensures in

@@ -1,6 +1,6 @@
 use Rattle.register.proofs.Performing.{Carried}
 use Rattle.register.specs.Contents.{names}
-use Rattle.register.proofs.run.run_calls.Given as goal
+use Rattle.register.proofs.run.carry_out.Given as goal
 
 -- whatever the register showed at first, the calls so far were a run from there
 abbrev pub invariant-loop-turn : goal.invariant-loop-turn
