@@ -2,7 +2,7 @@
 
 #![tactic(auto)]
 
-ghost use Rattle.std.specs.Prelude.{◌≤◌, IfOk, vec_len};
+ghost use Rattle.std.specs.Prelude.{◌≤◌, length, IfOk};
 
 use script::{REPORT_BYTES, run_audit};
 use std::io;
@@ -11,24 +11,29 @@ use std::io::{Read, Write};
 /// One byte more than the longest script, so that a longer one shows.
 const SCRIPT_BYTES: usize = 32769;
 
-/// Reads standard input up to its end, or as many bytes as show that the script is too long.
-fn read_script(rt: &HostRuntime) -> io::Result<Vec<u8>>
-    ensures { IfOk result (λ script. vec_len script ≤ 32769) }
+/// Reads standard input up to its end or until the buffer is full, and gives how many bytes came. Each read asks for all that is
+/// left of the buffer, which `read_to_end` does not, so that a message that comes whole is read whole; and no read needs the heap.
+fn read_script(rt: &HostRuntime, script: &mut [u8]) -> io::Result<usize>
+    ensures { IfOk result (λ n. n ≤ length script.new) }
 {
-    let mut script = Vec::new(rt.alloc());
-    rt.stdin()
-        .take(SCRIPT_BYTES as u64)
-        .read_to_end(&mut script)?;
-    // `take` leaves nothing to cut off, which `read_to_end` does not promise. There is no `From` of a `usize`.
-    script.truncate(SCRIPT_BYTES);
-    Ok(script)
+    let mut input = rt.stdin();
+    let mut read = 0;
+    while read < script.len() {
+        let count = input.read(&mut script[read..])?;
+        if count == 0 {
+            break;
+        }
+        read += count;
+    }
+    Ok(read)
 }
 
 /// Prints the report of the script; a refusal is an error after the report's whole lines.
 fn audit(rt: &HostRuntime) -> anyhow::Result<()> {
-    let script = read_script(rt)?;
+    let mut script = [0; SCRIPT_BYTES];
+    let size = read_script(rt, &mut script)?;
     let mut report = [0; REPORT_BYTES];
-    let (length, ended) = match run_audit(&script, &mut report) {
+    let (length, ended) = match run_audit(&script[..size], &mut report) {
         Ok(length) => (length, Ok(())),
         Err(stopped) => (stopped.length, Err(stopped.into())),
     };
