@@ -5,7 +5,7 @@ ghost use Rattle.std.specs.Prelude.{◌≡◌, ◌≤◌, take};
 use crate::name::LONGEST;
 
 /// The bytes of a name, at most 16, with zero bytes behind: an array, since nothing is taken from the heap.
-#[derive(Clone, Copy)]
+#[derive(Clone, Copy, Debug, PartialEq, Eq, PartialOrd, Ord, Hash)]
 pub struct NameText {
     pub bytes: [u8; LONGEST],
     pub count: usize,
