@@ -5,7 +5,7 @@ use Rattle.kinds.specs.Packed.{name_of}
 use Rattle.kinds.specs.declared.name.Name.{Name}
 use Rattle.tree.specs.Lookup.{last_of}
 use Rattle.register.specs.Asked.{Before}
-use Rattle.register.specs.Calls.{Answer, Call, Handle, Question, as_of, asks, branches, counted, done, found, handed, named, next_name, refused, tallies, total, totalled}
+use Rattle.register.specs.Calls.{Answer, Call, Handle, Question, as_of, asks, branches, counted, done, fetches, found, handed, named, next_name, opens, refused, stows, tallies, total, totalled}
 use Rattle.register.specs.Contents.{Names}
 use Rattle.register.specs.History.{Entry, History, IsAsOf, IsNext, IsTotal, Stage, stands}
 
@@ -19,9 +19,12 @@ is_answer (found reading) = true
 is_answer (totalled count sum) = true
 is_answer (named name) = true
 
--- a refusal of any call, and a question
+-- a refusal of any call, a question, and what changes the table alone: opening, stowing, fetching
 abbrev pub leaves_nodes : Call → Answer → Bool
 leaves_nodes call (refused why) = true
+leaves_nodes opens answer = true
+leaves_nodes (stows handle letter) answer = true
+leaves_nodes (fetches letter) answer = true
 leaves_nodes tallies answer = true
 leaves_nodes (asks handle recorded question) answer = true
 leaves_nodes call answer = false

@@ -30,7 +30,7 @@ module _ {N : Type 0} {K : Type 0} (𝓝 : Names K) where
   abbrev pub StepsTo : Register N → Call → Answer → Register N → Type 0
   StepsTo r call a r' = (s : Shown) → ShownBy r s → (s' : Shown) × ShownBy r' s' × Step 𝓝 s call a s'
 
-  -- a refusal and a question leave every node as it was
+  -- a refusal, a question, and an opening, stowing or fetching leave every node as it was
   pub record Tells (r : Register N) (call : Call) (a : Answer) (r' : Register N) : Type 0 where
     pub step : StepsTo r call a r'
     pub unchanged : leaves_nodes call a ≡ true → pool_of r' ≡ pool_of r

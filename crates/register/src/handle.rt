@@ -74,6 +74,14 @@ impl<S> Handle<S> {
         (place, serial)
     }
 
+    /// The place of the handle; the handle is no more.
+    pub(crate) fn spend(self) -> u32
+        ensures { result ≡ self.place }
+    {
+        let (place, _) = self.into_parts();
+        place
+    }
+
     pub fn place(&self) -> u32
         ensures { result ≡ self.now.place }
     {

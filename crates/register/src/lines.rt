@@ -7,7 +7,7 @@ ghost use Rattle.register.specs.Calls.{branch_answer, branches, done_answer, fet
 ghost use Rattle.register.specs.Contents.{names};
 ghost use Rattle.register.specs.Registers.{GivesBack, HandsBack, IsAtRest, IsInSitting, Keeps, KeepsOthers, SameLoan, ShownBy, Tells};
 ghost use Rattle.register.specs.Shown.{newly_made};
-ghost use Rattle.register.specs.Tables.{resting_record, vacancy_in};
+ghost use Rattle.register.specs.Tables.{all_free, resting_record, vacancy_in};
 
 use crate::handle::{Line, Refused, SPENT};
 use crate::refusal::Refusal;
@@ -42,6 +42,14 @@ fn branch_off(nodes: &mut [Node], state: &mut PoolState, line: Record, serial: u
 {
     state.retain(nodes, line.root);
     Record::resting(serial, line.root)
+}
+
+/// The handle of the line that has this record at a place.
+fn line_at(place: u32, record: Record) -> Line
+    ensures place { result.place ≡ place }
+    ensures serial { result.serial ≡ record.serial }
+{
+    Line::from_parts(place, record.serial)
 }
 
 /// Lets the stages of a line that ends go: one owner fewer of their root.
@@ -85,8 +93,30 @@ impl<'m, N: NameOrder> Register<'m, N> {
     {
         let size = size_over(memory);
         let state = free_first(memory, size);
+        Register::over(memory, size, state, first_serial)
+    }
+
+    /// A register over this memory without a line. Its nodes are the first of the memory, as many as the size says, and all of them
+    /// are free.
+    fn over(
+        nodes: &'m mut [Node],
+        size: usize,
+        state: PoolState,
+        first_serial: u32,
+    ) -> Register<'m, N>
+        requires small { size ≤ 65535 }
+        requires within { size ≤ length nodes.old }
+        requires unused { state.used ≡ 0 }
+        requires free { HoldsIn (take size nodes.old) state.free state.used [] }
+        ensures borrow { result.nodes.ghost_name ≡ nodes.entry.ghost_name }
+        ensures nodes { result.nodes.now ≡ nodes.old }
+        ensures size { result.size ≡ size }
+        ensures state { result.state ≡ state }
+        ensures lines { result.table.lines ≡ all_free }
+        ensures next { result.next ≡ first_serial }
+    {
         Register {
-            nodes: memory,
+            nodes,
             size,
             state,
             table: Table::new(),
@@ -166,7 +196,7 @@ impl<'m, N: NameOrder> Register<'m, N> {
             Ok(record) => record,
             Err(why) => return Err(Refused { handle: line, why }),
         };
-        let (place, _) = line.into_parts();
+        let place = line.spend();
         self.table.put(place, record.stowed(letter));
         Ok(())
     }
@@ -188,7 +218,7 @@ impl<'m, N: NameOrder> Register<'m, N> {
             .find(State::Stowed(letter))
             .ok_or(Refusal::ShelfEmpty)?;
         self.table.put(place, record.rested());
-        Ok(Line::from_parts(place, record.serial))
+        Ok(line_at(place, record))
     }
 
     /// Ends a line at rest. The nodes that only this line reached are free then.
@@ -207,7 +237,7 @@ impl<'m, N: NameOrder> Register<'m, N> {
                 why: Refusal::NoSuchLine,
             });
         };
-        let (place, _) = line.into_parts();
+        let place = line.spend();
         let_go(&mut self.nodes[..self.size], &mut self.state, record);
         self.table.free(place);
         Ok(())

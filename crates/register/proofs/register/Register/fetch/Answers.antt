@@ -6,7 +6,7 @@ use Rattle.register.proofs.Passing.{passed}
 use Rattle.register.proofs.Keeping.{the_places}
 use Rattle.register.proofs.Shelving.{empty-shelf, fetched, kept-fetched}
 use Rattle.register.proofs.Memory.{unwritten}
-use Rattle.register.proofs.Telling.{never, put-at, made_at}
+use Rattle.register.proofs.Telling.{put-at, made_at}
 use Rattle.register.specs.declared.refusal.Refusal.{Refusal}
 use Rattle.register.specs.declared.refusal.Refusal.TheVariants.{ShelfEmpty}
 use Rattle.register.proofs.Handles.{all-rest, all-sit, rests-now, shelf-apart, within-lines}
@@ -34,14 +34,14 @@ returns-clause-told g c =
     record {
       step = fetched (pool_of self) self.table.lines c.args.letter c.in_ok-place.place (search rules) c.in_ok-place.record (search rules) _
           (put-at self.table.lines _ _ _ _ _ c.put.ensures refl c.rested.ensures) _ self.next (sym c.is_ascii_uppercase.ensures.value ∙ c.if-not-is_ascii_uppercase.false) _
-          (λ i. handed (record { place = c.from_parts.ensures.place i; serial = c.from_parts.ensures.serial i }));
-      unchanged = never;
+          (λ i. handed (record { place = c.line_at.ensures.place i; serial = c.line_at.ensures.serial i }));
+      unchanged = λ _. refl;
     }
 
 pub returns-clause-rests : goal.returns-clause-rests
 returns-clause-rests g c =
     let self = c.args.self.now in
-    rests-now self _ _ _ c.put.ensures (line_handle c.from_parts.result) c.in_ok-place.record.root c.from_parts.ensures.place (within-lines self.table.lines c.in_ok-place.place c.in_ok-place.record (search rules)) (ap Some (made_at _ _ _ _ (sym c.from_parts.ensures.serial) c.rested.ensures))
+    rests-now self _ _ _ c.put.ensures (line_handle c.line_at.result) c.in_ok-place.record.root c.line_at.ensures.place (within-lines self.table.lines c.in_ok-place.place c.in_ok-place.record (search rules)) (ap Some (made_at _ _ _ _ (sym c.line_at.ensures.serial) c.rested.ensures))
 
 pub returns-clause-lines : goal.returns-clause-lines
 returns-clause-lines g c =

@@ -6,7 +6,7 @@ use Rattle.register.proofs.Passing.{passed}
 use Rattle.register.proofs.Keeping.{the_places}
 use Rattle.register.proofs.Memory.{unwritten}
 use Rattle.register.proofs.Opening.{kept-opened, opened, unopened}
-use Rattle.register.proofs.Telling.{never, put-at, made_at}
+use Rattle.register.proofs.Telling.{put-at, made_at}
 use Rattle.register.proofs.Handles.{all-rest, all-sit, rests, rests-now, sits, vacant}
 use Rattle.register.proofs.register.Register.open_line.Goals as goal
 
@@ -31,7 +31,7 @@ returns-clause-told g c =
           let (s', shows', step) = opened (pool_of self) self.table.lines self.next c.in_ok-place.place c.in_ok-place.ensures _ (put-at self.table.lines _ _ _ _ _ c.put.ensures refl (made_at _ _ _ 0 serial c.resting.ensures)) _ _
           (λ i. handed (record { place = c.from_parts.ensures.place i; serial = (c.from_parts.ensures.serial ∙ serial) i })) s shows in
           (s', rw c.next_serial-serial.ensures.next shows', step);
-      unchanged = never;
+      unchanged = λ _. refl;
     }
 
 pub returns-clause-rests : goal.returns-clause-rests

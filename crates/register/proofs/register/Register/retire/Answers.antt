@@ -37,7 +37,7 @@ invariant_of-self-2 g c =
     let (xs, k) = the_places (pool_of self) self.table.lines self.kept in
     rewritten self c.let_go.new.nodes c.let_go.new.state e.size c.free.new.self.lines _
     (kept-retired (pool_of self) self.table.lines c.args.line.place c.args.line.serial (Some c.in-Ok.record) c.in-Ok.ensures.0
-    p' c.free.new.self.lines c.in-Ok.ensures.1 (λ t hs. by-parts (pool_of self) p' _ _ (e.owned t hs)) (c.free.ensures ∙ ap (λ (k : ℕ). set self.table.lines k None) c.into_parts-place.ensures.place) xs k)
+    p' c.free.new.self.lines c.in-Ok.ensures.1 (λ t hs. by-parts (pool_of self) p' _ _ (e.owned t hs)) (c.free.ensures ∙ ap (λ (k : ℕ). set self.table.lines k None) c.spend-place.ensures) xs k)
 
 pub returns-clause-told : goal.returns-clause-told
 returns-clause-told g c =
@@ -47,7 +47,7 @@ returns-clause-told g c =
     record {
       step = λ s shows. shown-joined self c.let_go.new.nodes c.let_go.new.state e.size _ _ _
           (retired (pool_of self) self.table.lines c.args.line.place c.args.line.serial (Some c.in-Ok.record) c.in-Ok.ensures.0
-          p' c.free.new.self.lines c.in-Ok.ensures.1 (λ t hs. by-parts (pool_of self) p' _ _ (e.owned t hs)) (c.free.ensures ∙ ap (λ (k : ℕ). set self.table.lines k None) c.into_parts-place.ensures.place) _ self.next e.fewer e.size s shows);
+          p' c.free.new.self.lines c.in-Ok.ensures.1 (λ t hs. by-parts (pool_of self) p' _ _ (e.owned t hs)) (c.free.ensures ∙ ap (λ (k : ℕ). set self.table.lines k None) c.spend-place.ensures) _ self.next e.fewer e.size s shows);
       unchanged = never;
     }
 
@@ -65,9 +65,9 @@ returns-in_default-clause-sittings g c = sit-still c.args.self.now _ refl
 pub returns-clause-lines : goal.returns-clause-lines
 returns-clause-lines g c =
     let self = c.args.self.now in
-    others-rest self _ _ _ (c.free.ensures ∙ ap (λ (k : ℕ). set self.table.lines k None) c.into_parts-place.ensures.place) (line_handle c.args.line) refl
+    others-rest self _ _ _ (c.free.ensures ∙ ap (λ (k : ℕ). set self.table.lines k None) c.spend-place.ensures) (line_handle c.args.line) refl
 
 pub returns-clause-sittings : goal.returns-clause-sittings
 returns-clause-sittings g c =
     let self = c.args.self.now in
-    all-sit self _ _ _ (c.free.ensures ∙ ap (λ (k : ℕ). set self.table.lines k None) c.into_parts-place.ensures.place) (ap sits (state-of-rest self.table.lines _ _ _ c.in-Ok.ensures.0 c.in-Ok.ensures.1))
+    all-sit self _ _ _ (c.free.ensures ∙ ap (λ (k : ℕ). set self.table.lines k None) c.spend-place.ensures) (ap sits (state-of-rest self.table.lines _ _ _ c.in-Ok.ensures.0 c.in-Ok.ensures.1))
