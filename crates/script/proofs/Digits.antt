@@ -1,13 +1,13 @@
 -- Numbers as digits: a step of the reading, and the text that a number is written by.
-use Rattle.std.proofs.Common.{◌≡◌, ℕ, ◌^◌, ◌<◌, ◌≤◌, true, ◌&&◌, leb, List, length, get_or, Some, None, Ok, Err, Result, decimal, sym, ap, ◌∙◌, subst, inl, inr, arith, rules}
-use Rattle.std.proofs.lemmas.Fmt.{IsAscii-from_digits, decimal-digits_value, decimal_digit, decimal_nonempty, digits_decimal, first_decimal, length-decimal-le, digits_value-decimal}
-use Rattle.std.proofs.lemmas.Str.{IsUtf8-from_ascii}
-use Rattle.std.proofs.lemmas.Str.Parse.{IsNumeralModel, numerals_by_fold, digits_value_short, parse_plain, tells_all_ascii_digits}
-use Rattle.std.proofs.lemmas.Bool.{and_parts, and_from, or_cases, or_left, or_right, not-true, not_from_false, cond-true, cond-false, eq-eqb, ne_eqb, eqb-true, eqb-false, and_right, le-leb, leb-true, cases_Bool, cases_eq}
-use Rattle.std.specs.Result.{MatchResult, OkIff, result_ok}
-use Rattle.std.specs.Str.{IsUtf8, all_ascii_digits}
-use Rattle.std.specs.Str.Parse.{ParsesUnsigned}
-use Rattle.script.specs.Numerals.{digits_after, plain_size, number_of, NumberWritten}
+use Rattle.std.proofs.Common.{◌≡◌, ℕ, ◌+◌, ◌-◌, ◌*◌, ◌^◌, ◌<◌, ◌≤◌, true, false, ◌&&◌, leb, List, length, get_or, drop, Some, None, decimal, sym, ap, ◌∙◌, subst, inl, inr, pow-suc, arith, rules}
+use native.Mathlib.Nat.{pow-le-pow_right}
+use Rattle.std.proofs.lemmas.Fmt.{decimal-digits_value, decimal_digit, decimal_nonempty, digits_decimal, first_decimal, length-decimal-le, digits_value-decimal}
+use Rattle.std.proofs.lemmas.List.{at_drop_more}
+use Rattle.std.proofs.lemmas.Str.Parse.{IsNumeralModel, numerals_by_fold, digits_value_short, tells_all_ascii_digits}
+use Rattle.std.proofs.lemmas.Bool.{and_parts, and_from, or_cases, or_left, or_right, not-true, not_from_false, cond-true, cond-false, eq-eqb, ne_eqb, eqb-true, eqb-false, and_left, and_right, both_ways, le-leb, leb-true, cases_Bool, cases_eq}
+use Rattle.std.specs.Char.{is_ascii_digit}
+use Rattle.std.specs.Str.{all_ascii_digits}
+use Rattle.script.specs.Numerals.{digits_after, digits_of, plain_size, number_of, NumberWritten}
 
 -- the words of this crate for what the library's lemmas speak of
 own : IsNumeralModel (λ ds. all_ascii_digits ds ≡ true) (digits_after 0)
@@ -76,22 +76,41 @@ number-none-digits text other =
       | inr some ↦ sym (cond-false _ (Some (digits_after 0 text)) None (and_right (plain_size text) (all_ascii_digits text) some))
     ]
 
--- what `parse` makes of a text of plain size that begins with a digit
-parsed : {E : Type 0} (text : List ℕ) (r : Result ℕ E) → Plain text → OkIff r ((all_ascii_digits text ≡ true) × (0 < length text) × (digits_after 0 text < 2 ^ 64)) (digits_after 0 text) → result_ok r ≡ number_of text
-parsed text (Ok n) plain h = ap Some h.1 ∙ sym (number_is text (plain-from text plain) h.0.0)
-parsed text (Err e) plain h =
-    number-none-digits text (λ all. h (all, plain.some, omega (arith, digits_value_short own text 18 all plain.short)))
+-- a text of 1 to 18 bytes that begins with another digit than 0 says what its digits write
+pub number_digits : (text : List ℕ) → 0 < length text → length text ≤ 18 → 49 ≤ get_or text 0 0 → digits_of text ≡ number_of text
+number_digits text some short digit =
+    elim (cases_Bool (all_ascii_digits text)) [
+      | inl all ↦
+          let plain : Plain text = record { some = some; short = short; lead = λ zero-first. absurd (omega arith) } in
+          cond-true _ (Some (digits_after 0 text)) None all ∙ sym (number_is text (plain-from text plain) all)
+      | inr other ↦ cond-false _ (Some (digits_after 0 text)) None other ∙ number-none-digits text (λ all. both_ways (all_ascii_digits text) other all)
+    ]
 
--- a text of 1 to 18 bytes that begins with another digit than 0 says what `parse` makes of it, as UTF-8
-pub number-parsed : {A E F : Type 0} (text : List ℕ) (now : A → List ℕ) (Q : F → Type 0) (decoded : Result A F) (s : A) (r : Result ℕ E) → 0 < length text → length text ≤ 18 → 49 ≤ get_or text 0 0 → result_ok decoded ≡ Some s → MatchResult decoded (λ s. (now s ≡ text) × IsUtf8 text) Q → ParsesUnsigned 64 10 (now s) r → result_ok r ≡ number_of text
-number-parsed text now Q (Ok t) s r some short digit is same h =
-    let same-s : now s ≡ text = ap now (let e : s ≡ t = cc in e) ∙ same.0 in
-    let plain : Plain text = record { some = some; short = short; lead = λ zero-first. absurd (omega arith) } in
-    parsed text r plain (parse_plain own 64 text r (rw same-s at h) (λ plus. omega arith))
-number-parsed text now Q (Err e) s r some short digit is same h = let z : ◌≡◌ {A = ℕ} 0 1 = cc in absurd (omega arith)
+-- one digit more after i digits
+pub digit-more : (value digit i : ℕ) → value < 10 ^ i → digit < 10 → value * 10 + digit < 10 ^ (i + 1)
+digit-more value digit i small d =
+    let e : 10 ^ (i + 1) ≡ 10 ^ i * 10 = ap (λ k. 10 ^ k) (omega arith) ∙ pow-suc 10 i in
+    omega (arith, e)
 
--- a text that is not UTF-8 has another byte than digits
-pub number-not_utf8 : {A F : Type 0} (text : List ℕ) (P : A → Type 0) (Q : F → Type 0) (decoded : Result A F) → result_ok decoded ≡ None → MatchResult decoded P (λ e. (IsUtf8 text → ⊥) × Q e) → None ≡ number_of text
-number-not_utf8 text P Q (Ok s) is other = let z : ◌≡◌ {A = ℕ} 0 1 = cc in absurd (omega arith)
-number-not_utf8 text P Q (Err e) is other =
-    number-none-digits text (λ all. other.0 (IsUtf8-from_ascii text (IsAscii-from_digits text (own.to text all))))
+-- the digits of a text of at most 18 write less than 10^18
+pub digit_room : (text : List ℕ) (i value digit : ℕ) → length text ≤ 18 → i < length text → value < 10 ^ i → digit < 10 → value * 10 + digit < 10 ^ 18
+digit_room text i value digit short inside small one =
+    omega (arith, digit-more value digit i small one, pow-le-pow_right {n = 10} (omega arith) {i = i + 1} {j = 18} (omega arith))
+
+module _ (text : List ℕ) (i : ℕ) (inside : i < length text) (same : all_ascii_digits (drop i text) ≡ all_ascii_digits text) where
+  -- what is left begins with the byte at i
+  opened : is_ascii_digit (get_or text i 0) && all_ascii_digits (drop (i + 1) text) ≡ all_ascii_digits text
+  opened = sym (at_drop_more all_ascii_digits text i 0 inside) ∙ same
+
+  pub stopped : is_ascii_digit (get_or text i 0) ≡ false → all_ascii_digits text ≡ false
+  stopped other = sym opened ∙ and_left (is_ascii_digit (get_or text i 0)) (all_ascii_digits (drop (i + 1) text)) other
+
+  pub digits-again : is_ascii_digit (get_or text i 0) ≡ true → all_ascii_digits (drop (i + 1) text) ≡ all_ascii_digits text
+  digits-again digit = ap (λ b. b && all_ascii_digits (drop (i + 1) text)) (sym digit) ∙ opened
+
+-- a digit is at most 9
+pub digit-small : (byte : ℕ) → is_ascii_digit byte ≡ true → byte - 48 < 10
+digit-small byte digit = omega (arith, leb-true byte 57 (and_parts (leb 48 byte) (leb byte 57) digit).1)
+
+pub value-again : (text : List ℕ) (i value : ℕ) → i < length text → digits_after value (drop i text) ≡ digits_after 0 text → digits_after (value * 10 + (get_or text i 0 - 48)) (drop (i + 1) text) ≡ digits_after 0 text
+value-again text i value inside same = sym (at_drop_more (digits_after value) text i 0 inside) ∙ same

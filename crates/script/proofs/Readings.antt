@@ -1,5 +1,6 @@
 -- Readings: a number, or a minus sign and a magnitude, and the text that a reading is written by.
-use Rattle.std.proofs.Common.{◌≡◌, Bool, false, true, ℕ, zero, suc, ◌^◌, ◌<◌, eqb, List, [], ◌∷◌, ℤ, pos, negsuc, neg_ℤ, nat_abs, Some, None, decimal, Option, sym, refl, ap, ◌∙◌, subst, inl, inr, arith}
+use Rattle.std.proofs.Common.{◌-◌, length, get_or, take, drop, ◌≡◌, Bool, false, true, ℕ, zero, suc, ◌^◌, ◌<◌, eqb, List, [], ◌∷◌, ℤ, pos, negsuc, neg_ℤ, nat_abs, Some, None, decimal, Option, sym, refl, ap, ◌∙◌, subst, inl, inr, arith}
+use Rattle.std.proofs.lemmas.List.{take_rest}
 use Rattle.std.proofs.lemmas.Bool.{cond-true, cond-false, eqb-true, eq-eqb, ne_eqb, cases_Bool, cases_eq}
 use Rattle.std.specs.Option.{option_map, option_or}
 use Rattle.std.specs.Fmt.{signed_decimal}
@@ -33,6 +34,12 @@ nonzero-parts (Some n) m e =
           let same : Some n ≡ Some m = sym (nonzero-some n (omega arith)) ∙ e in
           let is : n ≡ m = cc in (same, omega arith)
     ]
+
+-- the number after a minus sign, where the first byte is one
+pub after_minus_lem : (text : List ℕ) → 0 < length text → get_or text 0 0 ≡ 45 → number_of (take (length text - 1) (drop 1 text)) ≡ after_minus text
+after_minus_lem [] some sign = absurd (omega arith)
+after_minus_lem (first ∷ rest) some sign =
+    ap number_of (take_rest (first ∷ rest) 1) ∙ sym (cond-true (eqb first 45) (number_of rest) None (eq-eqb first 45 sign))
 
 -- a magnitude comes after a minus sign
 pub magnitude-parts : (text : List ℕ) (m : ℕ) → magnitude_of text ≡ Some m → (rest : List ℕ) × (text ≡ 45 ∷ rest) × (number_of rest ≡ Some m) × (0 < m)

@@ -14,6 +14,10 @@ digits_after number (digit ∷ digits) = digits_after (number * 10 + (digit - 48
 abbrev pub plain_size : List ℕ → Bool
 plain_size text = nat_le 1 (length text) && nat_le (length text) 18 && (length text == 1 || not (slice_index text 0 == 48))
 
+-- the number that digits write, and none where another byte stands
+abbrev pub digits_of : List ℕ → Option ℕ
+digits_of text = cond (all_ascii_digits text) (Some (digits_after 0 text)) None
+
 abbrev pub number_of : List ℕ → Option ℕ
 number_of text = cond (plain_size text && all_ascii_digits text) (Some (digits_after 0 text)) None
 

@@ -1,14 +1,16 @@
 //! The fields of a line, read one by one.
 
-ghost use Rattle.std.specs.Prelude.{◌≡◌, ◌-◌, ◌<◌, ◌↔◌, min, length, take, drop, IsNone, IfSome};
+ghost use Rattle.std.specs.Prelude.{◌≡◌, ◌-◌, ◌<◌, ◌≤◌, ◌↔◌, min, length, take, drop, IsNone, IfSome};
 ghost use Rattle.script.specs.Fields.{fields_of, Parts, text_of, IsFieldOf, IsNextPart, Lexed, left};
-ghost use Rattle.script.specs.Numerals.{number_of, instant_of, reading_of, byte_of, NumberWritten, ReadingWritten};
+ghost use Rattle.script.specs.Numerals.{digits_of, number_of, instant_of, reading_of, byte_of, NumberWritten, ReadingWritten};
 
 use crate::lines::length_before;
-use std::str;
 
 /// The most digits of a number.
 const MAX_DIGITS: usize = 18;
+
+/// The first number of more digits.
+const NUMBER_LIMIT: u64 = 1_000_000_000_000_000_000;
 
 /// A part of the bytes that are read, and where it begins there.
 #[derive(Clone, Copy, Debug, PartialEq, Eq)]
@@ -65,9 +67,11 @@ impl<'s> Field<'s> {
         ensures written { ReadingWritten (text_of self.now) }
     {
         match *self {
-            Field::Number(_, value) => i64::try_from(value).ok(),
-            Field::Negative(_, magnitude) => Some(-i64::try_from(magnitude).ok()?),
-            Field::Word(_) => None,
+            Field::Number(_, value) if value < NUMBER_LIMIT => i64::try_from(value).ok(),
+            Field::Negative(_, magnitude) if magnitude < NUMBER_LIMIT => {
+                Some(-i64::try_from(magnitude).ok()?)
+            }
+            _ => None,
         }
     }
 }
@@ -108,7 +112,7 @@ impl<'s> Lexer<'s> {
         let script = &script[..end.min(script.len())];
         Lexer {
             script,
-            next: start.min(script.len()),
+            next: within(start, script),
         }
     }
 
@@ -145,15 +149,37 @@ impl<'s> Iterator for Lexer<'s> {
     }
 }
 
+/// The place, or the end of the bytes where that comes first.
+fn within(place: usize, bytes: &[u8]) -> usize
+    ensures { result ≡ min place (length bytes.now) }
+{
+    place.min(bytes.len())
+}
+
 /// The number that a text writes: 1 to 18 digits without a needless leading zero.
-#[tactic(auto, using(crate::proofs::Digits::number_written))]
+#[tactic(auto, using(crate::proofs::Digits::number_written, crate::proofs::Digits::number_digits))]
 pub fn number(text: &[u8]) -> Option<u64>
     ensures value { result ≡ number_of text.now }
     ensures written { NumberWritten text.now }
 {
     match text {
         [b'0'] => Some(0),
-        [b'1'..=b'9', ..] if text.len() <= MAX_DIGITS => str::from_utf8(text).ok()?.parse().ok(),
+        [b'1'..=b'9', ..] if text.len() <= MAX_DIGITS => digits(text),
         _ => None,
     }
+}
+
+/// The number that 18 digits at most write. By a loop, since `parse`, which needs the text as UTF-8, takes twice the time.
+fn digits(text: &[u8]) -> Option<u64>
+    requires { length text.now ≤ 18 }
+    ensures { result ≡ digits_of text.now }
+{
+    let mut value: u64 = 0;
+    for digit in text {
+        if !digit.is_ascii_digit() {
+            return None;
+        }
+        value = value * 10 + u64::from(*digit - b'0');
+    }
+    Some(value)
 }
